@@ -1,0 +1,28 @@
+-- `checks::check_depths` meets its contract: the size is small, and the test is that of `depthsCheck`.
+use borrow.Author.Needs.{needs}
+use native.Mathlib.Omega.{arith}
+use borrow.Author.Tests.{lt-ltb, le-ltb}
+use Rattle.checks.proofs.Laws.{chart-small, depths-small}
+use Rattle.checks.proofs.check_depths.Statement.{statement}
+use Rattle.checks.proofs.check_depths.Tie as tie
+
+add-if1 : tie.Need-add-if1
+add-if1 c = search needs
+
+mul-if1 : tie.Need-mul-if1
+mul-if1 c = omega (arith, chart-small _ _ (c .pre .0) (c .pre .1))
+
+add-if1-2 : tie.Need-add-if1-2
+add-if1-2 c = search needs
+
+mul-if1-2 : tie.Need-mul-if1-2
+mul-if1-2 c = omega (arith, depths-small _ _ (c .pre .0) (c .pre .1))
+
+returns : tie.Need-returns
+returns c = simp (lt-ltb _ _ (c .if1 .taken))
+
+returns-2 : tie.Need-returns-2
+returns-2 c = simp (le-ltb _ _ (c .if1 .left))
+
+pub check-depths-spec : {M : Type 1} → statement M
+check-depths-spec = tie.close (tie.spec add-if1 mul-if1 add-if1-2 mul-if1-2 returns returns-2)

@@ -1,0 +1,40 @@
+-- The forest's records: what each one says, and the order in which they stand.
+use Prim.Native.Nat.{ℕ, _-_, _≤_, _<_}
+use mathlib.Core.Logic.{_↔_}
+use mathlib.Core.List.{List, [], _∷_, List·Memᴰ, Lexᴰ, IsChain}
+use lib.ListN.{length, getD, take}
+use Rattle.derivation.specs.Grammar.{Grammar, ruleAt}
+use Rattle.derivation.specs.Tree.{Child, Children}
+
+-- the document's (p, d, i, m, j)
+pub record Branch : Type 0 where
+  pub rule : ℕ
+  pub place : ℕ
+  pub start : ℕ
+  pub middle : ℕ
+  pub end : ℕ
+
+-- b is a record: d is from 1 to rule p's length, the first d - 1 symbols derive i..m and symbol d derives m..j
+pub record IsBranch (g : Grammar) (w : List ℕ) (b : Branch) : Type 0 where
+  pub below : b .rule < length (g .rules)
+  pub first : 1 ≤ b .place
+  pub last : b .place ≤ length (ruleAt g (b .rule) .right)
+  pub before : Children g w (take (b .place - 1) (ruleAt g (b .rule) .right)) (b .start) (b .middle)
+  pub symbol : Child g w (getD (ruleAt g (b .rule) .right) (b .place - 1) 0) (b .middle) (b .end)
+
+-- p, d, i, m, j
+abbrev pub numbers : Branch → List ℕ
+numbers b = b .rule ∷ b .place ∷ b .start ∷ b .middle ∷ b .end ∷ []
+
+-- a comes before b: of their numbers, compared left to right, the first that differ rise
+abbrev pub Before : Branch → Branch → Type 0
+Before a b = Lexᴰ _<_ (numbers a) (numbers b)
+
+-- each record comes before the next one; so each stands once
+abbrev pub Ascending : List Branch → Type 0
+Ascending = IsChain Before
+
+-- l is the forest of the line w: its members are exactly the records, ascending
+pub record ForestIs (g : Grammar) (w : List ℕ) (l : List Branch) : Type 0 where
+  pub each : (b : Branch) → List·Memᴰ b l ↔ IsBranch g w b
+  pub ascending : Ascending l

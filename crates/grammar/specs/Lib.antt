@@ -1,0 +1,5 @@
+pub mod Reading
+pub mod Value
+pub mod Starts
+pub mod Limits
+pub mod Encoding

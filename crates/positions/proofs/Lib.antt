@@ -1,0 +1,8 @@
+-- The laws of sets of positions: the first line of each module says what it proves.
+pub mod Digits
+pub mod Members
+pub mod Shifts
+pub mod Counts
+pub mod Extremes
+pub mod Unions
+pub mod Unique

@@ -1,0 +1,74 @@
+// Sets of positions in a word of 64 bits.
+ghost use mathlib.Core.Path.{_≡_};
+ghost use Prim.Native.Nat.{_+_, _^_, _≤_, _<_};
+ghost use lib.Dec.{eqb};
+ghost use lib.ListN.{length};
+ghost use Rattle.positions.specs.Member.{digit};
+ghost use Rattle.positions.specs.With.{With};
+ghost use Rattle.positions.specs.Count.{countBelow};
+ghost use Rattle.positions.specs.First.{First};
+ghost use Rattle.positions.specs.Last.{Last};
+ghost use Rattle.positions.specs.Union.{Union};
+ghost use Rattle.positions.specs.AfterClass.{AfterClass};
+
+// Whether a position is in the set.
+pub fn member(set: u64, at: usize) -> bool
+    requires { ⌜ at < 64 ⌝ }
+    ensures { λ r. ⌜ r ≡ eqb (digit set at) 1 ⌝ }
+{
+    (set >> at) & 1 == 1
+}
+
+// The set with one more position.
+pub fn insert(set: u64, at: usize) -> u64
+    requires { ⌜ at < 64 ⌝ }
+    ensures { λ r. ⌜ With set at r ⌝ }
+{
+    set | (1 << at)
+}
+
+// How many positions the set has.
+pub fn count(set: u64) -> u32
+    ensures { λ r. ⌜ r ≡ countBelow 64 set ⌝ }
+{
+    u64::count_ones(set)
+}
+
+// The smallest position of the set, and 64 for the empty set.
+pub fn first(set: u64) -> u32
+    ensures { λ r. ⌜ First set r ⌝ }
+{
+    u64::trailing_zeros(set)
+}
+
+// The largest position of a set that is not empty.
+pub fn last(set: u64) -> u32
+    requires { ⌜ 0 < set ⌝ }
+    ensures { λ r. ⌜ Last set r ⌝ }
+{
+    63 - u64::leading_zeros(set)
+}
+
+// The union of the rows base + m over the members m of the set, from ≤ m < width.
+pub fn union(set: u64, rows: &[u64], base: usize, from: usize, width: usize) -> u64
+    requires { ⌜ (width ≤ 64) × (base + width ≤ length (now rows)) ⌝ }
+    ensures { λ r. ⌜ Union set (now (rows .entry)) base from width r ⌝ }
+{
+    let mut all = 0u64;
+    let mut m = from;
+    while m < width {
+        if member(set, m) {
+            all |= rows[base + m];
+        }
+        m += 1;
+    }
+    all
+}
+
+// The positions right after those of the set that are in `places`, the positions at which the line has a class.
+pub fn after_class(set: u64, places: u64) -> u64
+    requires { ⌜ places < 2 ^ 63 ⌝ }
+    ensures { λ r. ⌜ AfterClass set places r ⌝ }
+{
+    (set & places) << 1
+}
