@@ -11,10 +11,12 @@ use lib.ListN.{length, getD}
 use lib.Dec.{ltb}
 use borrow.Author.Count.{below-more}
 use borrow.Author.Tests.{lt-ltb, le-ltb, ltb-true, ltb-false}
+use Rattle.refusals.specs.declared.Refusal.{Refusal}
 use Rattle.refusals.specs.declared.Refusal.the-variants.{LineTooLong, TokenNoClass}
 use Rattle.refusals.specs.declared.Check.{Check}
 use Rattle.refusals.specs.declared.Check.the-variants.{Passed, Refused}
 use Rattle.checks.specs.Line.{IsLine, FirstNoClass, LineOutcome, tooLong, badToken, isLine, tokensFrom, lineCheck}
+use Rattle.checks.specs.Question.{refuseIf}
 use Rattle.checks.specs.Memory.{chartSize, depthsSize}
 
 -- the sizes of the work memory are small
@@ -23,6 +25,14 @@ chart-small categories n c l = mul-le-mul {n₂ = 32} {m₂ = 64} c (omega arith
 
 pub depths-small : (categories n : ℕ) → categories ≤ 32 → n ≤ 63 → depthsSize categories n ≤ 131072
 depths-small categories n c l = mul-le-mul {n₂ = 2048} {m₂ = 64} (chart-small categories n c l) (omega arith)
+
+-- a lent row is refused where it is shorter than its size, and else passes
+module _ (size lent : ℕ) (refusal : Refusal) where
+  pub too-small : lent < size → refuseIf (ltb lent size) refusal ≡ Refused refusal
+  too-small h = rw (lt-ltb lent size h)
+
+  pub large-enough : size ≤ lent → refuseIf (ltb lent size) refusal ≡ Passed
+  large-enough h = rw (le-ltb lent size h)
 
 module _ (classes : ℕ) (line : List ℕ) where
   tokens-step : (t : ℕ) → t < length line → tokensFrom classes line (length line - t) t ≡ cond (ltb (getD line t 0) classes) (tokensFrom classes line (length line - (t + 1)) (t + 1)) (Refused (TokenNoClass t))

@@ -4,7 +4,6 @@ use mathlib.Core.Path.{_≡_, subst}
 use mathlib.Core.Bool.{Bool, true}
 use mathlib.Core.List.{List}
 use native.Mathlib.Nat.{le-refl, add-suc, mul-suc, not-suc-le-zero, lt-of-not-le}
-use native.Mathlib.Numerals.{add-one}
 use native.Mathlib.Decide.{decLt}
 use native.Mathlib.Omega.{arith}
 use lib.ListN.{length}
@@ -74,4 +73,4 @@ module _ (g : Grammar) (w : List ℕ) (proper : Proper g) where
 
   -- every fact has a tree within the bound
   pub bound : {A i j : ℕ} → Tree g w A i j → Within g w (depthBound g i j) A i j
-  bound {A} {i} {j} t = within-sound g w (depthBound g i j) A i j (rw add-one (bound-below (suc (j - i)) A i j (omega arith) t))
+  bound {A} {i} {j} t = within-sound g w (depthBound g i j) A i j (bound-below (j - i + 1) A i j (omega arith) t)

@@ -5,8 +5,7 @@ use mathlib.Core.Bool.{Bool, true, false, cond}
 use mathlib.Core.List.{List, []}
 use native.Mathlib.Numerals.{add-one}
 use native.Mathlib.Omega.{arith}
-use lib.ListN.{take, drop, length, getD, length-drop}
-use lib.Seq.{length-take-le, getD-take, getD-drop}
+use lib.ListN.{take, drop, length, getD}
 use lib.Dec.{leb, ltb}
 use borrow.Author.Tests.{ltb-true, ltb-false, leb-true}
 use Rattle.refusals.specs.declared.Refusal.{Refusal}
@@ -19,6 +18,7 @@ use Rattle.grammar.specs.declared.reading.Reading.{Reading}
 use Rattle.grammar.specs.declared.reading.Reading.the-variants.{Accepted, Refused}
 use Rattle.grammar.specs.Reading.{byte, andThen, eachFrom, isFlag, isSymbol, ruleFrom, rulesFrom, flagsSection, rulesSection, onward, sectionsAt, sectionsOf, nothingAfter, readOf}
 use Rattle.grammar.specs.Value.{Sectioned, standing, after, rulesAt, startOf, grammarOf, Stands, Found}
+use Rattle.grammar.proofs.Parts.{part-length, part-at}
 use Rattle.grammar.proofs.ReadingLaws.{must-to, flags-section-to, rules-section-to, rules-step}
 
 -- bytes that were passed over, each with its test
@@ -224,11 +224,11 @@ module _ (g : List ℕ) (s : Sections) (e : Sectioned g s) where
   -- the flags, where they stand
   pub class-flag-is : (t : ℕ) → t < s .classes → byte g (1 + t) ≡ getD (grammarOf g s .classes) t 0
   unfolding grammarOf
-  class-flag-is t h = sym (rw (getD-take, getD-drop))
+  class-flag-is t h = sym (part-at g (s .classes) 1 t h)
 
   pub category-flag-is : (a : ℕ) → a < s .categories → byte g (s .flags + a) ≡ getD (grammarOf g s .categories) a 0
   unfolding grammarOf
-  category-flag-is a h = sym (rw (getD-take, getD-drop))
+  category-flag-is a h = sym (part-at g (s .categories) (s .flags) a h)
 
 -- what stands at a position is what the rule there has
 module _ (g : List ℕ) (at : ℕ) (h : Stands g at) where
@@ -238,11 +238,11 @@ module _ (g : List ℕ) (at : ℕ) (h : Stands g at) where
 
   pub length-is : byte g (at + 1) ≡ length (standing g at .right)
   unfolding standing
-  length-is = sym (length-take-le _ _ (simp length-drop (omega (arith, h .inside))))
+  length-is = sym (part-length g (byte g (at + 1)) (at + 2) (h .inside))
 
   pub symbol-is : (d : ℕ) → d < byte g (at + 1) → byte g (at + 2 + d) ≡ getD (standing g at .right) d 0
   unfolding standing
-  symbol-is d l = sym (rw (getD-take, getD-drop))
+  symbol-is d l = sym (part-at g (byte g (at + 1)) (at + 2) d l)
 
   pub symbols-is : take (at + 2 + byte g (at + 1) - (at + 2)) (drop (at + 2) g) ≡ standing g at .right
   unfolding standing

@@ -1,2 +1,5 @@
 pub mod ReadingLaws
+pub mod Parts
 pub mod Accepted
+pub mod Encoded
+pub mod Encoding

@@ -1,4 +1,5 @@
 pub mod Reading
+pub mod Told
 pub mod Value
 pub mod Starts
 pub mod Limits
