@@ -3,3 +3,4 @@ pub mod Parts
 pub mod Accepted
 pub mod Encoded
 pub mod Encoding
+pub mod Unique
