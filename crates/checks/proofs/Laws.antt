@@ -8,16 +8,17 @@ use native.Mathlib.Nat.{mul-le-mul, lt-of-not-le}
 use native.Mathlib.Decide.{decLe, decLt}
 use native.Mathlib.Omega.{arith}
 use lib.ListN.{length, getD}
-use lib.Dec.{ltb}
+use lib.Dec.{ltb, leb}
 use borrow.Author.Count.{below-more}
-use borrow.Author.Tests.{lt-ltb, le-ltb, ltb-true, ltb-false}
+use borrow.Author.Tests.{lt-ltb, le-ltb, ltb-true, ltb-false, leb-false}
 use Rattle.refusals.specs.declared.Refusal.{Refusal}
-use Rattle.refusals.specs.declared.Refusal.the-variants.{LineTooLong, TokenNoClass}
+use Rattle.refusals.specs.declared.Refusal.the-variants.{LineTooLong, TokenNoClass, CategoryOutside, StartOutside, ChartTooSmall, DepthsTooSmall}
 use Rattle.refusals.specs.declared.Check.{Check}
 use Rattle.refusals.specs.declared.Check.the-variants.{Passed, Refused}
+use Rattle.refusals.specs.Order.{andThen, Checks, early, late, reported}
 use Rattle.checks.specs.Line.{IsLine, FirstNoClass, LineOutcome, tooLong, badToken, isLine, tokensFrom, lineCheck}
-use Rattle.checks.specs.Question.{refuseIf}
-use Rattle.checks.specs.Memory.{chartSize, depthsSize}
+use Rattle.checks.specs.Question.{refuseIf, startCheck}
+use Rattle.checks.specs.Memory.{chartSize, depthsSize, chartCheck, depthsCheck, workCheck}
 
 -- the sizes of the work memory are small
 pub chart-small : (categories n : ℕ) → categories ≤ 32 → n ≤ 63 → chartSize categories n ≤ 2048
@@ -33,6 +34,45 @@ module _ (size lent : ℕ) (refusal : Refusal) where
 
   pub large-enough : size ≤ lent → refuseIf (ltb lent size) refusal ≡ Passed
   large-enough h = rw (le-ltb lent size h)
+
+-- two checks pass where each does
+pub both-passed : (a b : Check) → andThen a b ≡ Passed → (a ≡ Passed) × (b ≡ Passed)
+both-passed Passed b e = (refl, e)
+both-passed (Refused refusal) b e = absurd (never e)
+  where
+    never : Refused refusal ≡ Passed → ⊥
+    never h = let z : _≡_ {A = ℕ} 0 1 = cc in omega arith
+
+pub reported-passed : (c : Checks) → reported c ≡ Passed → (early c ≡ Passed) × (late c ≡ Passed)
+reported-passed c e = both-passed (early c) (late c) e
+
+-- a check finds one thing
+pub one-refusal : {c : Check} {r s : Refusal} → c ≡ Refused r → c ≡ Refused s → r ≡ s
+one-refusal p q = cc
+
+pub not-both : {c : Check} {r : Refusal} → c ≡ Refused r → c ≡ Passed → ⊥
+not-both p q = let z : _≡_ {A = ℕ} 0 1 = cc in omega arith
+
+-- a check that passes has no fault
+pub no-fault : (fault : Bool) (refusal : Refusal) → refuseIf fault refusal ≡ Passed → fault ≡ false
+no-fault false refusal e = refl
+no-fault true refusal e = absurd (never e)
+  where
+    never : Refused refusal ≡ Passed → ⊥
+    never h = let z : _≡_ {A = ℕ} 0 1 = cc in omega arith
+
+-- a category and a start that pass are of the grammar and of the line
+pub start-passed : (categories n A i : ℕ) → startCheck categories n A i ≡ Passed → (A < categories) × (i ≤ n)
+unfolding startCheck
+start-passed categories n A i e =
+    let p = both-passed (refuseIf (leb categories A) CategoryOutside) (refuseIf (ltb n i) StartOutside) e in
+    (leb-false _ _ (no-fault (leb categories A) CategoryOutside (p .0)), ltb-false _ _ (no-fault (ltb n i) StartOutside (p .1)))
+
+-- memory that passes is large enough
+pub work-passed : (categories n words numbers : ℕ) → workCheck categories n words numbers ≡ Passed → (chartSize categories n ≤ words) × (depthsSize categories n ≤ numbers)
+work-passed categories n words numbers e =
+    let p = both-passed (chartCheck categories n words) (depthsCheck categories n numbers) e in
+    (ltb-false _ _ (no-fault _ ChartTooSmall (p .0)), ltb-false _ _ (no-fault _ DepthsTooSmall (p .1)))
 
 module _ (classes : ℕ) (line : List ℕ) where
   tokens-step : (t : ℕ) → t < length line → tokensFrom classes line (length line - t) t ≡ cond (ltb (getD line t 0) classes) (tokensFrom classes line (length line - (t + 1)) (t + 1)) (Refused (TokenNoClass t))

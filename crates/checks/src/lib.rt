@@ -3,7 +3,7 @@ ghost use mathlib.Core.Path.{_≡_};
 ghost use Prim.Native.Nat.{_≤_};
 ghost use Rattle.checks.specs.Line.{lineCheck};
 ghost use Rattle.checks.specs.Question.{startCheck, spanCheck};
-ghost use Rattle.checks.specs.Memory.{chartCheck, depthsCheck};
+ghost use Rattle.checks.specs.Memory.{chartCheck, depthsCheck, workCheck};
 use refusals::Check;
 use refusals::Refusal;
 
@@ -74,4 +74,15 @@ pub fn check_depths(categories: usize, n: usize, numbers: usize) -> Check
         return Check::Refused(Refusal::DepthsTooSmall);
     }
     Check::Passed
+}
+
+// Chart memory, then depth memory, for a line of n tokens.
+pub fn check_work(categories: usize, n: usize, words: usize, numbers: usize) -> Check
+    requires { ⌜ (categories ≤ 32) × (n ≤ 63) ⌝ }
+    ensures { λ r. ⌜ r ≡ workCheck categories n words numbers ⌝ }
+{
+    match check_chart(categories, n, words) {
+        Check::Refused(refusal) => Check::Refused(refusal),
+        Check::Passed => check_depths(categories, n, numbers),
+    }
 }

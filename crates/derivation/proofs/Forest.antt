@@ -14,15 +14,14 @@ use Rattle.derivation.specs.Tree.{Tree, Child, Children, token, category
 use Rattle.derivation.specs.Fact.{Fact}
 use Rattle.derivation.specs.Within.{Within, ChildWithin, ChildrenWithin}
 use Rattle.derivation.specs.Round.{Known, child, children, within}
-use Rattle.derivation.specs.Table.{depthOf}
-use Rattle.derivation.specs.Branch.{Branch, IsBranch, ForestIs}
-use Rattle.derivation.specs.Forest.{facts, isBranch, passing, forest}
+use Rattle.derivation.specs.Facts.{facts}
+use Rattle.derivation.specs.Branch.{Branch, IsBranch, ForestIs, numbers}
+use Rattle.derivation.specs.Forest.{isBranch, passing, forest}
 use Rattle.derivation.proofs.Tests.{and-parts, and-both, same-test}
 use Rattle.derivation.proofs.Within.{within-sound, within-complete, child-inside, children-inside, child-iff, children-iff}
 use Rattle.derivation.proofs.Decide.{depth-exists, rounds-bound}
-use Rattle.derivation.proofs.Table.{depthOf-is}
 use Rattle.derivation.proofs.Prefix.{empty-within, then-within, token-within, category-within}
-use Rattle.derivation.proofs.Secret.{found-fact, fact-found}
+use Rattle.derivation.proofs.Facts.{facts-exact}
 use Rattle.derivation.proofs.Order.{Run, ascending-unique, gathered-member, member-gathered, kept-member, member-kept, run-gathered, run-kept}
 
 module _ (g : Grammar) (w : List ℕ) (proper : Proper g) where
@@ -83,13 +82,9 @@ module _ (g : Grammar) (w : List ℕ) (proper : Proper g) where
               symbol = child-exact (getD s (b .place - 1) 0) (b .middle) (b .end) .0 (f .1);
             }
 
-  pub facts-exact : (A i j : ℕ) → (facts g w A i j ≡ true) ↔ Fact g w A i j
-  unfolding facts depthOf
-  facts-exact A i j = (found-fact (depthOf-is g w proper A i j), fact-found (depthOf-is g w proper A i j))
-
 -- all that pass a test and stand in the ranges, and those only, ascending
 module _ (g : Grammar) (w : List ℕ) (test : Branch → Bool) where
-  passing-run : Run [] (passing g w test)
+  passing-run : Run numbers [] (passing g w test)
   unfolding passing
   passing-run =
       run-gathered [] _ (λ p.

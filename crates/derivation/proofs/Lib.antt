@@ -7,10 +7,15 @@ pub mod Bound
 pub mod Decide
 pub mod Table
 pub mod Prefix
+pub mod Skip
 pub mod Rounds
+pub mod RoundsOf
+pub mod Still
 pub mod Secret
 pub mod Choice
 pub mod Shown
 pub mod Rewriting
 pub mod Order
+pub mod Facts
 pub mod Forest
+pub mod Totals

@@ -1,10 +1,11 @@
 -- The forest's records: what each one says, and the order in which they stand.
 use Prim.Native.Nat.{ℕ, _-_, _≤_, _<_}
 use mathlib.Core.Logic.{_↔_}
-use mathlib.Core.List.{List, [], _∷_, List·Memᴰ, Lexᴰ, IsChain}
+use mathlib.Core.List.{List, [], _∷_, List·Memᴰ}
 use lib.ListN.{length, getD, take}
 use Rattle.derivation.specs.Grammar.{Grammar, ruleAt}
 use Rattle.derivation.specs.Tree.{Child, Children}
+use Rattle.derivation.specs.Ascending.{Ascending}
 
 -- the document's (p, d, i, m, j)
 pub record Branch : Type 0 where
@@ -26,15 +27,7 @@ pub record IsBranch (g : Grammar) (w : List ℕ) (b : Branch) : Type 0 where
 abbrev pub numbers : Branch → List ℕ
 numbers b = b .rule ∷ b .place ∷ b .start ∷ b .middle ∷ b .end ∷ []
 
--- a comes before b: of their numbers, compared left to right, the first that differ rise
-abbrev pub Before : Branch → Branch → Type 0
-Before a b = Lexᴰ _<_ (numbers a) (numbers b)
-
--- each record comes before the next one; so each stands once
-abbrev pub Ascending : List Branch → Type 0
-Ascending = IsChain Before
-
--- l is the forest of the line w: its members are exactly the records, ascending
+-- l is the forest of the line w: its members are exactly the records, ascending by p, d, i, m, j
 pub record ForestIs (g : Grammar) (w : List ℕ) (l : List Branch) : Type 0 where
   pub each : (b : Branch) → List·Memᴰ b l ↔ IsBranch g w b
-  pub ascending : Ascending l
+  pub ascending : Ascending numbers l

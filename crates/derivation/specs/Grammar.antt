@@ -1,5 +1,5 @@
 -- A context-free grammar as a value: the document's three sections.
-use Prim.Native.Nat.{ℕ, _<_}
+use Prim.Native.Nat.{ℕ, _+_, _<_}
 use mathlib.Core.Path.{_≡_}
 use mathlib.Core.List.{List, []}
 use lib.ListN.{length, getD}
@@ -31,3 +31,7 @@ pub record IsRule (g : Grammar) (p A : ℕ) (s : List ℕ) : Type 0 where
 -- every rule's left category is one of the grammar's
 pub record Proper (g : Grammar) : Type 0 where
   pub lefts : (p : ℕ) → p < length (g .rules) → ruleAt g p .left < length (g .categories)
+
+-- category B stands among the symbols
+abbrev pub Among : List ℕ → ℕ → Type 0
+Among symbols B = (d : ℕ) × (d < length symbols) × (getD symbols d 0 ≡ 128 + B)

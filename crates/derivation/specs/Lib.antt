@@ -8,9 +8,14 @@ pub mod Secret
 pub mod Node
 pub mod Search
 pub mod Listing
+pub mod Ascending
 pub mod Within
 pub mod Round
 pub mod Table
+pub mod RoundsOf
+pub mod Facts
+pub mod FactList
+pub mod FactCount
 pub mod Marks
 pub mod Choice
 pub mod Shown

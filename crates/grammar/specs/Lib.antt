@@ -4,3 +4,4 @@ pub mod Value
 pub mod Starts
 pub mod Limits
 pub mod Encoding
+pub mod Given

@@ -5,7 +5,7 @@ use native.Mathlib.Nat.{pow-suc, div-one, div-div-eq-div-mul, mul-comm, mod-lt, 
 use native.Mathlib.Omega.{arith}
 use lib.Arith.{digits-mod, lt-one}
 use lib.Pow.{pow-mono}
-use lib.Bits.{bitOr, bitAnd, or-step, or-shr, and-step, and-shr}
+use lib.Bits.{bitOr, bitAnd, bitXor, differ, or-step, or-shr, and-step, and-shr, xor-step, xor-shr}
 use Rattle.positions.specs.Member.{digit, Member}
 
 pub digit-zero : (x : ℕ) → digit x zero ≡ x % 2
@@ -46,6 +46,17 @@ unfolding digit
 digit-and a b j =
     ap (λ (y : ℕ). y % 2) (and-shr a b j ∙ and-step (a / 2 ^ j) (b / 2 ^ j))
     ∙ digits-mod (bitAnd (a / 2 ^ j / 2) (b / 2 ^ j / 2)) (omega (arith, digit-lt a j, digit-lt b j))
+
+differ-lt : (x y : ℕ) → x < 2 → y < 2 → differ x y < 2
+differ-lt zero y hx hy = hy
+differ-lt (suc x) zero hx hy = hx
+differ-lt (suc x) (suc y) hx hy = differ-lt x y (omega arith) (omega arith)
+
+pub digit-xor : (a b j : ℕ) → digit (bitXor a b) j ≡ differ (digit a j) (digit b j)
+unfolding digit
+digit-xor a b j =
+    ap (λ (y : ℕ). y % 2) (xor-shr a b j ∙ xor-step (a / 2 ^ j) (b / 2 ^ j))
+    ∙ digits-mod (bitXor (a / 2 ^ j / 2) (b / 2 ^ j / 2)) (differ-lt (digit a j) (digit b j) (digit-lt a j) (digit-lt b j))
 
 -- twice a number: its digits move up by one
 pub double-zero : (x : ℕ) → digit (x * 2) zero ≡ 0

@@ -1,17 +1,17 @@
--- The members of a word: of 0, of one digit, of `or` and `and`; two words with the same members are equal.
-use mathlib.Core.Path.{_≡_, refl, sym, ap, _∙_}
+-- The members of a word: of 0, of one digit, of `or`, `and` and `xor`, and of a word less one member; two words with the same members are equal.
+use mathlib.Core.Path.{_≡_, refl, sym, ap, ap₂, _∙_}
 use mathlib.Core.Logic.{_⊎_, inl, inr, ⊎-elim, _↔_}
 use mathlib.Core.Bool.{Bool, true, false}
-use Prim.Native.Nat.{ℕ, zero, suc, _^_, _≤_, _<_}
-use native.Mathlib.Nat.{pow-suc}
+use Prim.Native.Nat.{ℕ, zero, suc, _+_, _-_, _^_, _≤_, _<_}
+use native.Mathlib.Nat.{pow-suc, lt-of-lt-of-le, le-add-right, le-add-left}
 use native.Mathlib.Omega.{arith}
 use lib.Dec.{eqb}
-use lib.Pow.{pow-pos}
-use lib.Bits.{bitOr, bitAnd}
+use lib.Pow.{pow-pos, pow-lt, pow-mono}
+use lib.Bits.{bitOr, bitAnd, bitXor, differ, and-le-l, and-le-r, xor-add-and}
 use lib.Count.{leading-top}
 use borrow.Author.Tests.{eqb-true, eqb-false}
 use Rattle.positions.specs.Member.{digit, Member}
-use Rattle.positions.proofs.Digits.{digit-zero, digit-suc, digit-lt, digit-none, digit-above, digit-top, digit-or, digit-and, double-zero, double-suc, same-digits}
+use Rattle.positions.proofs.Digits.{digit-zero, digit-suc, digit-lt, digit-none, digit-above, digit-top, digit-or, digit-and, digit-xor, double-zero, double-suc, same-digits}
 
 -- each position is in the set or is not
 pub member? : (x j : ℕ) → Member x j ⊎ (Member x j → ⊥)
@@ -67,13 +67,23 @@ and-member a b j = (
   λ h. omega (arith, digit-and a b j, h .0, h .1),
 )
 
--- two words with the same members are equal
-pub same-members : (a b : ℕ) → a < 2 ^ 64 → b < 2 ^ 64 → ((j : ℕ) → Member a j ↔ Member b j) → a ≡ b
-same-members a b ha hb h = same-digits 64 a b ha hb (λ j l. same j (member? a j))
+-- where a has what b has, `xor` is what is in a and not in b
+pub xor-member : (a b j : ℕ) → (Member b j → Member a j) → Member (bitXor a b) j ↔ (Member a j × (Member b j → ⊥))
+xor-member a b j s = go (member? a j) (member? b j)
   where
-    same : (j : ℕ) → Member a j ⊎ (Member a j → ⊥) → digit a j ≡ digit b j
-    same j (inl m) = m ∙ sym (h j .0 m)
-    same j (inr n) = no-digit a j n ∙ sym (no-digit b j (λ m. n (h j .1 m)))
+    go : Member a j ⊎ (Member a j → ⊥) → Member b j ⊎ (Member b j → ⊥) → Member (bitXor a b) j ↔ (Member a j × (Member b j → ⊥))
+    go (inl x) (inl y) = let z : digit (bitXor a b) j ≡ 0 = digit-xor a b j ∙ ap₂ differ x y in (λ m. absurd (omega arith), λ p. absurd (p .1 y))
+    go (inl x) (inr n) = (λ m. (x, n), λ p. digit-xor a b j ∙ ap₂ differ x (no-digit b j n))
+    go (inr n) y =
+        let z : digit (bitXor a b) j ≡ 0 = digit-xor a b j ∙ ap₂ differ (no-digit a j n) (no-digit b j (λ m. n (s m))) in
+        (λ m. absurd (omega arith), λ p. absurd (n (p .0)))
+
+-- two words with the same members have the same digits, and so are equal
+same-digit : (a b : ℕ) → ((j : ℕ) → Member a j ↔ Member b j) → (j : ℕ) → digit a j ≡ digit b j
+same-digit a b h j = ⊎-elim (λ m. m ∙ sym (h j .0 m)) (λ n. no-digit a j n ∙ sym (no-digit b j (λ m. n (h j .1 m)))) (member? a j)
+
+pub same-members : (a b : ℕ) → a < 2 ^ 64 → b < 2 ^ 64 → ((j : ℕ) → Member a j ↔ Member b j) → a ≡ b
+same-members a b ha hb h = same-digits 64 a b ha hb (λ j l. same-digit a b h j)
 
 -- a word is 0 exactly where it has no member, and a word that is not 0 has one
 pub empty-word : (x : ℕ) → x < 2 ^ 64 → (x ≡ 0) ↔ ((j : ℕ) → Member x j → ⊥)
@@ -82,5 +92,40 @@ empty-word x h = (
   λ n. same-members x 0 h (pow-pos 64) (λ j. (λ m. absurd (n j m), λ m. absurd (none-member j m))),
 )
 
+lt-power : (x : ℕ) → x < 2 ^ x
+lt-power zero = pow-pos 0
+lt-power (suc x) = omega (arith, pow-suc 2 x, lt-power x)
+
+-- and so for numbers of any length
+pub same-members-all : (a b : ℕ) → ((j : ℕ) → Member a j ↔ Member b j) → a ≡ b
+same-members-all a b h =
+    same-digits (a + b) a b (lt-of-lt-of-le (lt-power a) (pow-mono (le-add-right a b))) (lt-of-lt-of-le (lt-power b) (pow-mono (le-add-left b a)))
+    (λ j l. same-digit a b h j)
+
+has-member : (x : ℕ) → 0 < x → (j : ℕ) × Member x j
+has-member x p = let t = leading-top x x p (lt-power x) in (t .0, digit-top x (t .0) (t .2) (t .3))
+
 pub some-member : (x : ℕ) → 0 < x → x < 2 ^ 64 → (j : ℕ) × (j < 64) × Member x j
-some-member x p h = let t = leading-top 64 x p h in (t .0, omega (arith, t .1), digit-top x (t .0) (t .2) (t .3))
+some-member x p h = let t = has-member x p in (t .0, member-below x 64 (t .0) h (t .1), t .1)
+
+-- two words that differ do so at some position
+pub xor-some : (a b : ℕ) → (a ≡ b → ⊥) → (j : ℕ) × Member (bitXor a b) j
+xor-some a b n = has-member (bitXor a b) (omega (arith, xor-add-and a b, and-le-l a b, and-le-r a b))
+
+-- a member k as a word of one digit, and the word less it
+module _ (x k : ℕ) (l : k < 64) (m : Member x k) where
+  and-one : bitAnd x (2 ^ k) ≡ 2 ^ k
+  and-one =
+      same-members (bitAnd x (2 ^ k)) (2 ^ k) (omega (arith, and-le-r x (2 ^ k), pow-lt l)) (pow-lt l)
+      (λ j. (λ h. and-member x (2 ^ k) j .0 h .1, λ h. and-member x (2 ^ k) j .1 (rw (one-member k j .0 h) m, h)))
+
+  pub one-le : 2 ^ k ≤ x
+  one-le = omega (arith, and-one, and-le-l x (2 ^ k))
+
+  pub less-member : (j : ℕ) → Member (x - 2 ^ k) j ↔ (Member x j × (j ≡ k → ⊥))
+  less-member j =
+      let e : x - 2 ^ k ≡ bitXor x (2 ^ k) = omega (arith, and-one, xor-add-and x (2 ^ k)) in
+      let s = xor-member x (2 ^ k) j (λ h. rw (one-member k j .0 h) m) in (
+        λ h. let p = s .0 (rw e at h) in (p .0, λ q. p .1 (one-member k j .1 q)),
+        λ p. rw e (s .1 (p .0, λ h. p .1 (one-member k j .0 h))),
+      )

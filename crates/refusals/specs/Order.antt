@@ -24,13 +24,14 @@ pub record Checks : Type 0 where
   -- 11
   pub room : Check
 
+-- the refusals that change no lent memory: 1 to 9, and 12
+abbrev pub early : Checks → Check
+early c = andThen (c .grammar) (andThen (c .line) (andThen (c .question) (andThen (c .memory) (c .filling))))
+
+-- the refusals after the filling: 10, then 11
+abbrev pub late : Checks → Check
+late c = andThen (c .fact) (c .room)
+
 -- what is reported: the first refusal in this order
 abbrev pub reported : Checks → Check
-reported c =
-    andThen (c .grammar)
-    (andThen (c .line)
-    (andThen (c .question)
-    (andThen (c .memory)
-    (andThen (c .filling)
-    (andThen (c .fact)
-    (c .room))))))
+reported c = andThen (early c) (late c)

@@ -1,0 +1,57 @@
+-- `chart::work::prepare` meets its contract: what the reading and the check of the line gave says which case of `prepared` holds.
+use borrow.Author.Needs.{needs}
+use mathlib.Core.Path.{_≡_, sym, _∙_}
+use denote.Ref.{now}
+use Rattle.grammar.specs.declared.reading.Reading.the-variants.{Accepted}
+use Rattle.grammar.specs.Reading.{readOf}
+use Rattle.chart.proofs.work.prepare.Statement.{statement}
+use Rattle.chart.proofs.work.prepare.Tie as tie
+
+-- the grammar was accepted
+accepted : (c : tie.After-s) → readOf (now (c .before .before .before .before .before .args .g)) ≡ Accepted (c .s .given .0 .0)
+accepted c = sym (c .before .before .read .ensures) ∙ c .s .given .1
+
+read-requires : tie.Need-read-requires
+read-requires c κs = search needs
+
+enum-known-refusal : tie.Need-enum-known-refusal
+enum-known-refusal c = search needs
+
+enum-known-s : tie.Need-enum-known-s
+enum-known-s c = search needs
+
+check-line-requires : tie.Need-check-line-requires
+check-line-requires c κs = search needs
+
+enum-known-refusal-2 : tie.Need-enum-known-refusal-2
+enum-known-refusal-2 c = search needs
+
+enum-told : tie.Need-enum-told
+enum-told c = search needs
+
+returns : tie.Need-returns
+returns c = simp (sym (c .before .before .before .read .ensures) ∙ c .before .refusal .given .1)
+
+returns-2 : tie.Need-returns-2
+returns-2 c =
+    let l = c .before .before .before in
+    simp (accepted (l .before .before), sym (l .check-line .ensures) ∙ c .before .refusal2 .given .1)
+
+returns-3 : tie.Need-returns-3
+returns-3 c =
+    let l = c .before .before in
+    simp (accepted (l .before .before), sym (l .check-line .ensures) ∙ c .enum-told .given .1)
+
+pub prepare-spec : {M : Type 1} → statement M
+prepare-spec =
+    tie.close
+    (tie.spec
+    read-requires
+    enum-known-refusal
+    enum-known-s
+    check-line-requires
+    enum-known-refusal-2
+    enum-told
+    returns
+    returns-2
+    returns-3)

@@ -1,0 +1,5 @@
+pub mod Checks
+pub mod Prepared
+pub mod Told
+pub mod ChartOutcome
+pub mod EndsOutcome

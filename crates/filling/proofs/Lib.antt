@@ -1,0 +1,10 @@
+pub mod TableLaws
+pub mod PrefixLaws
+pub mod DepthLaws
+pub mod RowLaws
+pub mod CommitLaws
+pub mod ClearLaws
+pub mod RuleLaws
+pub mod RoundLaws
+pub mod FillLaws
+pub mod Unique

@@ -1,0 +1,114 @@
+-- `write_depths`: the entries of what is left, over those written, make those of the set; what is left falls.
+use mathlib.Core.Path.{_≡_, refl, sym, subst}
+use mathlib.Core.List.{List}
+use Prim.Native.Nat.{ℕ, _+_, _*_, _%_, _^_, _≤_, _<_}
+use denote.Ref.{now}
+use native.Mathlib.Omega.{arith}
+use lib.ListN.{length, length-set}
+use lib.Pow.{pow-pos}
+use borrow.Author.Needs.{needs}
+use Rattle.positions.specs.Member.{Member}
+use Rattle.positions.proofs.Members.{one-le, less-member}
+use Rattle.positions.proofs.Extremes.{first-empty}
+use Rattle.positions.proofs.Shifts.{one-shifted}
+use Rattle.filling.specs.Commit.{Deepened}
+use Rattle.filling.proofs.DepthLaws.{deepened-none, deepened-less}
+use Rattle.filling.proofs.commit.write_depths.Statement.{statement}
+use Rattle.filling.proofs.commit.write_depths.Tie as tie
+
+abbrev Inv-loop : tie.InvT-loop
+Inv-loop depths₀ base set depth left₀ depths left =
+    (left ≤ set) × (length depths ≡ length depths₀) × ((j : ℕ) → Member left j → base + j < length depths₀) ×
+    ((final : List ℕ) → Deepened base left depth depths final → Deepened base set depth depths₀ final)
+
+abbrev μ-loop : tie.MeasureT-loop
+μ-loop depths₀ base set depth left₀ depths left = left
+
+-- the member that a turn takes
+module _ (c : tie.After-first Inv-loop μ-loop) where
+  abbrev left : ℕ
+  left = c .before .before .loop .left
+
+  abbrev taken : ℕ
+  taken = c .first .result
+
+  small : taken < 64
+  small =
+      let e = first-empty left taken (omega (arith, c .before .before .loop .inv .0)) (c .first .ensures) in
+      let n : taken ≡ 64 → ⊥ = λ q. c .before .loop-test .taken (e .0 q) in
+      omega (arith, c .first .ensures .within)
+
+  here : Member left taken
+  here = c .first .ensures .found small
+
+  power : (1 * 2 ^ taken) % 2 ^ 64 ≡ 2 ^ taken
+  power = one-shifted taken small
+
+  room : c .before .before .before .before .args .base + taken < length (now (c .before .before .before .before .args .depths))
+  room = c .before .before .loop .inv .2 taken here
+
+loop-holds : tie.Need-loop-holds Inv-loop μ-loop
+loop-holds c = (search needs, refl, c .before .pre, λ final d. d)
+
+first-requires : tie.Need-first-requires Inv-loop μ-loop
+first-requires c κs = search needs
+
+cast-j : tie.Need-cast-j Inv-loop μ-loop
+cast-j c = search needs
+
+add-depths : tie.Need-add-depths Inv-loop μ-loop
+add-depths c = omega (arith, room c)
+
+mul-depths : tie.Need-mul-depths Inv-loop μ-loop
+mul-depths c = omega (arith, room c)
+
+slice-write-depths : tie.Need-slice-write-depths Inv-loop μ-loop
+slice-write-depths c = omega (arith, room c)
+
+shl-left : tie.Need-shl-left Inv-loop μ-loop
+shl-left c = small c
+
+sub-left : tie.Need-sub-left Inv-loop μ-loop
+sub-left c = rw (power c) (one-le _ _ (small c) (here c))
+
+loop-less : tie.Need-loop-less Inv-loop μ-loop
+loop-less c = omega (arith, power c, one-le _ _ (small c) (here c), pow-pos (taken c))
+
+loop-again : tie.Need-loop-again Inv-loop μ-loop
+loop-again c =
+    let a = c .before .before .before .before .args in
+    let l = c .before .before .loop in
+    rw (power c) (
+      omega (arith, l .inv .0),
+      rw length-set (l .inv .1),
+      λ j m. l .inv .2 j (less-member _ _ (small c) (here c) j .0 m .0),
+      λ final d. l .inv .3 final (deepened-less (a .base) (a .depth) _ (small c) _ (here c) (l .depths) final (omega (arith, room c)) d),
+    )
+
+returns : tie.Need-returns Inv-loop μ-loop
+returns c =
+    let a = c .before .before .before .args in
+    let l = c .before .loop in
+    l .inv .3 (l .depths) (subst (λ (x : ℕ). Deepened (a .base) x (a .depth) (l .depths) (l .depths)) (sym (c .loop-test .left)) (deepened-none (a .base) (a .depth) (l .depths)))
+
+same-length : tie.Need-same-length Inv-loop μ-loop
+same-length c = c .before .loop .inv .1
+
+pub write-depths-spec : {M : Type 1} → statement M
+write-depths-spec =
+    tie.close
+    (tie.spec
+    Inv-loop
+    μ-loop
+    loop-holds
+    first-requires
+    cast-j
+    add-depths
+    mul-depths
+    slice-write-depths
+    shl-left
+    sub-left
+    loop-less
+    loop-again
+    same-length
+    returns)

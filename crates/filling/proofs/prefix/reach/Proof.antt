@@ -1,0 +1,103 @@
+-- `filling::prefix::reach` meets its contract. The loop's invariant: the ends are those of the first d symbols. The measure is what is left of the symbols.
+use mathlib.Core.Logic.{⊎-elim}
+use Prim.Native.Nat.{_+_, _-_, _*_, _≤_}
+use denote.Ref.{now}
+use native.Mathlib.Omega.{arith}
+use lib.ListN.{length, getD}
+use borrow.Author.Needs.{needs}
+use Rattle.filling.proofs.PrefixLaws.{Reached, reached-none, reached-class, reached-category, reached-all, reached-nowhere}
+use Rattle.filling.proofs.prefix.reach.Statement.{statement}
+use Rattle.filling.proofs.prefix.reach.Tie as tie
+
+abbrev Inv-loop : tie.InvT-loop
+Inv-loop symbols words places width start ends₀ d₀ ends d = (d ≤ length symbols) × Reached symbols words places width start d ends
+
+abbrev μ-loop : tie.MeasureT-loop
+μ-loop symbols words places width start ends₀ d₀ ends d = length symbols - d
+
+abbrev entry : tie.At-loop Inv-loop μ-loop → tie.Start Inv-loop μ-loop
+entry c = c .before .before .before .before
+
+insert-requires : tie.Need-insert-requires Inv-loop μ-loop
+insert-requires c κs = search needs
+
+loop-holds : tie.Need-loop-holds Inv-loop μ-loop
+loop-holds c = (search needs, reached-none (c .insert .result) (c .before .before .before .pre .1) (c .insert .ensures))
+
+returns : tie.Need-returns Inv-loop μ-loop
+returns c =
+    let l = c .before .before .loop in
+    reached-nowhere (l .d) (l .ends) (c .if1 .taken) (l .inv .1)
+
+shared-slice-read-symbol : tie.Need-shared-slice-read-symbol Inv-loop μ-loop
+shared-slice-read-symbol c = search needs
+
+cast-symbol : tie.Need-cast-symbol Inv-loop μ-loop
+cast-symbol c = omega (arith, c .shared-slice-known3 .given (c .before .before .before .loop .d))
+
+mul-after-class : tie.Need-mul-after-class Inv-loop μ-loop
+mul-after-class c = search needs
+
+element-copy-out-after-class : tie.Need-element-copy-out-after-class Inv-loop μ-loop
+element-copy-out-after-class c = search needs
+
+after-class-requires : tie.Need-after-class-requires Inv-loop μ-loop
+after-class-requires c κs = entry (c .before .before .before .before .before) .pre .0 .small _
+
+-- the rows of the category are in the words
+inside :
+    (c : tie.Else2 Inv-loop μ-loop) →
+    let a = entry (c .before .before .before .before) .args in
+    (getD (now (a .symbols)) (c .before .before .before .before .loop .d) 0 - 128) * a .width + a .width ≤ length (now (a .words))
+inside c =
+    let l = c .before .before .before .before in
+    entry l .pre .0 .rows (l .loop .d) (c .before .before .before .loop-test .taken) (c .if2 .left)
+
+mul-union : tie.Need-mul-union Inv-loop μ-loop
+mul-union c = omega (arith, inside c)
+
+union-requires : tie.Need-union-requires Inv-loop μ-loop
+union-requires c κs = (entry (c .before .before .before .before) .pre .0 .narrow, inside c)
+
+add-d : tie.Need-add-d Inv-loop μ-loop
+add-d c = search needs
+
+loop-less : tie.Need-loop-less Inv-loop μ-loop
+loop-less c = search needs
+
+loop-again : tie.Need-loop-again Inv-loop μ-loop
+loop-again c =
+    let l = c .before .before .before .before .loop in
+    let t = c .before .before .before .loop-test .taken in (
+      search needs,
+      ⊎-elim
+          (λ p. rw (p .3) (reached-class (l .d) (l .ends) (p .2 .result) t (p .0 .taken) (l .inv .1) (p .2 .ensures)))
+          (λ p. rw (p .2) (reached-category (l .d) (l .ends) (p .1 .result) t (p .0 .left) (l .inv .1) (p .1 .ensures)))
+          (c .if2 .came),
+    )
+
+returns-2 : tie.Need-returns-2 Inv-loop μ-loop
+returns-2 c =
+    let l = c .before .loop in
+    reached-all (l .d) (l .ends) (c .loop-test .left) (l .inv .1)
+
+pub reach-spec : {M : Type 1} → statement M
+reach-spec =
+    tie.close
+    (tie.spec
+    Inv-loop
+    μ-loop
+    insert-requires
+    loop-holds
+    returns
+    shared-slice-read-symbol
+    cast-symbol
+    mul-after-class
+    element-copy-out-after-class
+    after-class-requires
+    mul-union
+    union-requires
+    add-d
+    loop-less
+    loop-again
+    returns-2)

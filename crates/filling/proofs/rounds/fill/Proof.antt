@@ -1,0 +1,160 @@
+use Prim.Native.Nat.{_-_, _^_, _≤_, _<_}
+use mathlib.Core.Path.{sym, _∙_, ap}
+use native.Mathlib.Nat.{le-trans, le-of-eq}
+use native.Mathlib.Omega.{arith}
+use borrow.Author.Needs.{needs}
+use lib.ListN.{length}
+use denote.Ref.{now}
+use Rattle.grammar.specs.Value.{grammarOf}
+use Rattle.grammar.proofs.Accepted.{whole}
+use Rattle.grammar.proofs.Encoded.{category-count, sections-within, sections-proper}
+use Rattle.checks.specs.Memory.{chartSize, depthsSize}
+use Rattle.filling.proofs.FillLaws.{Given, Done, rounds-few, round-ready, round-done, start-done, filled-cleared, some-round, rounds-filled}
+use Rattle.filling.proofs.ClearLaws.{cleared-long}
+use Rattle.filling.proofs.rounds.fill.Statement.{statement}
+use Rattle.filling.proofs.rounds.fill.Tie as tie
+
+abbrev Inv-loop : tie.InvT-loop
+Inv-loop g s line words₀ depths₀ categories width rows starts masks places next₀ changed₀ depth₀ words depths next changed depth =
+    (changed < 2 ^ 64) × (depth ≤ 2049) × Done (grammarOf g s) line depth changed words₀ depths₀ words next depths
+
+abbrev μ-loop : tie.MeasureT-loop
+μ-loop g s line words₀ depths₀ categories width rows starts masks places next₀ changed₀ depth₀ words depths next changed depth =
+    2049 - depth
+
+-- the function's entry, from where the loop begins
+abbrev origin : tie.After-insert Inv-loop μ-loop → tie.Start Inv-loop μ-loop
+origin c = c .before .before .before .before .before .before .before .before .before .before .before .before .before .before .before .before .before
+
+given : (c : tie.After-insert Inv-loop μ-loop) → Given (grammarOf (now (origin c .args .g)) (origin c .args .s)) (now (origin c .args .line))
+given c =
+    let p = origin c .pre in
+    record { limits = sections-within _ _ (p .0); proper = sections-proper _ _ (p .0); short = p .1 .short }
+
+-- the memory that the loop begins with has the room of the memory at entry
+room : (c : tie.After-insert Inv-loop μ-loop) → chartSize (origin c .args .s .categories) (length (now (origin c .args .line))) ≤ length (c .before .before .before .before .before .before .before .before .before .before .before .clear-words .last .0)
+room c = let h = origin c .pre .2 in le-trans h (le-of-eq (sym (ap length (c .before .before .before .before .before .before .before .before .before .before .before .clear-words .ensures) ∙ cleared-long _ _ h)))
+
+deep-room : (c : tie.After-insert Inv-loop μ-loop) → depthsSize (origin c .args .s .categories) (length (now (origin c .args .line))) ≤ length (c .before .before .before .before .before .before .before .clear-depths .last .0)
+deep-room c = let h = origin c .pre .3 in le-trans h (le-of-eq (sym (ap length (c .before .before .before .before .before .before .before .clear-depths .ensures) ∙ cleared-long _ _ h)))
+
+add-width : tie.Need-add-width Inv-loop μ-loop
+add-width c = search needs
+
+mul-rows : tie.Need-mul-rows Inv-loop μ-loop
+mul-rows c = search needs
+
+clear-words-requires : tie.Need-clear-words-requires Inv-loop μ-loop
+clear-words-requires c κs = search needs
+
+mul-clear-depths : tie.Need-mul-clear-depths Inv-loop μ-loop
+mul-clear-depths c = search needs
+
+clear-depths-requires : tie.Need-clear-depths-requires Inv-loop μ-loop
+clear-depths-requires c κs = search needs
+
+rule-starts-requires : tie.Need-rule-starts-requires Inv-loop μ-loop
+rule-starts-requires c κs = search needs
+
+rule-masks-requires : tie.Need-rule-masks-requires Inv-loop μ-loop
+rule-masks-requires c κs = search needs
+
+class-places-requires : tie.Need-class-places-requires Inv-loop μ-loop
+class-places-requires c κs =
+    let p = c .before .before .before .before .before .before .before .before .before .before .before .before .before .before .before .pre in
+    record { short = p .1 .short; tokens = λ t l. le-trans (p .1 .tokens t l) (whole _ _ (p .0) .classes-high) }
+
+insert-requires : tie.Need-insert-requires Inv-loop μ-loop
+insert-requires c κs = search needs
+
+loop-holds : tie.Need-loop-holds Inv-loop μ-loop
+loop-holds c = (
+  omega arith,
+  omega arith,
+  start-done _ _ _ _ _ _ _ _ (category-count _ _ (origin c .pre .0)) (c .insert .ensures) (c .before .before .before .before .before .before .before .before .before .before .before .clear-words .ensures) (c .before .before .before .before .before .before .before .clear-depths .ensures),
+)
+
+-- the loop goes on at most 2048 times
+some : (c : tie.In-loop Inv-loop μ-loop) → 0 < c .before .loop .changed
+some c = omega (arith, c .loop-test .taken)
+
+few : (c : tie.In-loop Inv-loop μ-loop) → c .before .loop .depth ≤ 2048
+few c = rounds-few (given (c .before .before)) (some c) (c .before .loop .inv .0) (c .before .loop .inv .2 .changes)
+
+add-depth : tie.Need-add-depth Inv-loop μ-loop
+add-depth c = omega (arith, few c)
+
+apply-rules-requires : tie.Need-apply-rules-requires Inv-loop μ-loop
+apply-rules-requires c κs = search needs
+
+commit-requires : tie.Need-commit-requires Inv-loop μ-loop
+commit-requires c κs =
+    let i = c .before .before .before .before .before .before .before .before .before .before .before in
+    let l = c .before .before .before .before .before .before .before .before .before .before .loop in
+    let p = origin i .pre in (
+      round-ready (given i) (l .depth) (l .changed) _ _ (l .words) (l .next) (l .depths) _ _ _ (l .inv .2) (i .before .before .rule-masks .ensures) (i .before .class-places .ensures)
+          (c .before .before .before .apply-rules .ensures) _ (category-count _ _ (p .0)) (room i) (deep-room i),
+      whole _ _ (p .0) .categories-high,
+      omega (arith, p .1 .short),
+    )
+
+loop-less : tie.Need-loop-less Inv-loop μ-loop
+loop-less c = omega (arith, few (c .before .before .before .before .before .before .before .before .before .before .before .before .before .before))
+
+loop-again : tie.Need-loop-again Inv-loop μ-loop
+loop-again c =
+    let i = c .before .before .before .before .before .before .before .before .before .before .before .before .before .before .before .before in
+    let l = c .before .before .before .before .before .before .before .before .before .before .before .before .before .before .before .loop in
+    let p = origin i .pre in (
+      omega arith,
+      omega (arith, few (c .before .before .before .before .before .before .before .before .before .before .before .before .before .before)),
+      round-done (given i) (l .depth) (l .changed) _ _ (l .words) (l .next) (l .depths) _ _ _ (l .inv .2) (i .before .before .rule-masks .ensures) (i .before .class-places .ensures)
+          (c .before .before .before .before .before .before .before .before .apply-rules .ensures) _ _ _ _ (category-count _ _ (p .0)) (some (c .before .before .before .before .before .before .before .before .before .before .before .before .before .before)) (l .inv .0) (c .before .before .before .before .commit .ensures),
+    )
+
+cast-result : tie.Need-cast-result Inv-loop μ-loop
+cast-result c = omega arith
+
+sub-result : tie.Need-sub-result Inv-loop μ-loop
+sub-result c = some-round (c .loop-test .left) (c .before .loop .inv .2 .changes)
+
+same-length : tie.Need-same-length Inv-loop μ-loop
+same-length c = search needs
+
+same-length-2 : tie.Need-same-length-2 Inv-loop μ-loop
+same-length-2 c = search needs
+
+returns : tie.Need-returns Inv-loop μ-loop
+returns c =
+    let i = c .before .before in
+    let l = c .before .loop in
+    let p = origin i .pre in
+    filled-cleared _ _ (i .insert .result) _ _ _ _ _ (category-count _ _ (p .0)) (i .insert .ensures) (i .before .before .before .before .before .before .before .before .before .before .before .clear-words .ensures) (i .before .before .before .before .before .before .before .clear-depths .ensures) _ _ (p .2) (p .3)
+    (rounds-filled (given i) (l .depth) (l .changed) _ _ (l .words) (l .next) (l .depths) (c .loop-test .left) (l .inv .2))
+
+pub fill-spec : {M : Type 1} → statement M
+fill-spec =
+    tie.close
+    (tie.spec
+    Inv-loop
+    μ-loop
+    add-width
+    mul-rows
+    clear-words-requires
+    mul-clear-depths
+    clear-depths-requires
+    rule-starts-requires
+    rule-masks-requires
+    class-places-requires
+    insert-requires
+    loop-holds
+    add-depth
+    apply-rules-requires
+    commit-requires
+    loop-less
+    loop-again
+    cast-result
+    sub-result
+    same-length
+    same-length-2
+    returns)

@@ -1,0 +1,4 @@
+pub mod ReachLaws
+pub mod MarkLaws
+pub mod Unique
+pub mod OutcomeLaws
