@@ -1,6 +1,7 @@
 -- The number of ends that a filled chart shows is the number of facts.
 use Prim.Native.Nat.{ℕ, zero, suc, _+_, _-_, _*_, _≤_, _<_}
 use mathlib.Core.Path.{_≡_, refl, ap, _∙_}
+use mathlib.Core.Logic.{_↔_}
 use mathlib.Core.Bool.{Bool, true, false, cond, false≢true}
 use mathlib.Core.List.{List}
 use native.Mathlib.Nat.{le-of-suc-le-suc}
@@ -11,6 +12,7 @@ use Rattle.positions.specs.Member.{digit, Member}
 use Rattle.positions.specs.Count.{countBelow}
 use Rattle.positions.proofs.Members.{no-digit}
 use Rattle.derivation.specs.Grammar.{Grammar, Proper}
+use Rattle.derivation.specs.Fact.{Fact}
 use Rattle.derivation.specs.Facts.{facts}
 use Rattle.derivation.specs.FactCount.{total, factCount}
 use Rattle.derivation.proofs.Within.{tree-inside}
@@ -30,6 +32,16 @@ digit-test : (x j : ℕ) (b : Bool) → (Member x j → b ≡ true) → (b ≡ t
 digit-test x j true to from = from refl
 digit-test x j false to from = no-digit x j (λ m. false≢true (to m))
 
+-- the digits of a word that shows the ends of (A, i) are the computed facts
+module _ (G : Grammar) (line : List ℕ) (proper : Proper G) (A i word : ℕ) (shows : (j : ℕ) → Member word j ↔ Fact G line A i j) where
+  pub digit-is : (j : ℕ) → digit word j ≡ cond (facts G line A i j) 1 0
+  digit-is j =
+      let exact = facts-exact G line proper A i j in
+      digit-test word j (facts G line A i j) (λ m. exact .1 (shows j .0 m)) (λ e. shows j .1 (exact .0 e))
+
+  pub digit-past : (j : ℕ) → suc (length line) ≤ j → digit word j ≡ 0
+  digit-past j h = no-digit word j (λ m. omega (arith, tree-inside (shows j .0 m) .ends))
+
 module _ (G : Grammar) (line words depths words′ depths′ : List ℕ) (proper : Proper G) (short : length line ≤ 63) (filled : WorkFilled G line words depths words′ depths′) where
   -- a word shows as many ends as its category has facts from its start
   row-counted : (A i : ℕ) → A < length (G .categories) → i ≤ length line →
@@ -37,12 +49,12 @@ module _ (G : Grammar) (line words depths words′ depths′ : List ℕ) (proper
   row-counted A i a l =
       let n = length line in
       let word = getD words′ (A * (n + 1) + i) 0 in
-      let exact = facts-exact G line proper A i in
-      let past : (j : ℕ) → suc n ≤ j → digit word j ≡ 0 = λ j h. no-digit word j (λ m. omega (arith, tree-inside (filled .word A i a l j .0 m) .ends)) in
-      let same : (j : ℕ) → digit word j ≡ cond (facts G line A i j) 1 0 =
-      λ j. digit-test word j (facts G line A i j) (λ m. exact j .1 (filled .word A i a l j .0 m)) (λ e. filled .word A i a l j .1 (exact j .0 e)) in
+      let shows = filled .word A i a l in
       let all : 64 ≡ suc n + (63 - n) = omega arith in
-      count-total 64 word ∙ ap (total (digit word)) all ∙ total-past (digit word) (suc n) (63 - n) past ∙ total-same _ _ (suc n) (λ j h. same j)
+      count-total 64 word
+      ∙ ap (total (digit word)) all
+      ∙ total-past (digit word) (suc n) (63 - n) (digit-past G line proper A i word shows)
+      ∙ total-same _ _ (suc n) (λ j h. digit-is G line proper A i word shows j)
 
   pub facts-counted : total (λ q. countBelow 64 (getD words′ q 0)) (chartSize (length (G .categories)) (length line)) ≡ factCount G line
   unfolding factCount

@@ -13,7 +13,6 @@ use Rattle.grammar.specs.Given.{grammarGiven}
 use Rattle.filling.specs.Filled.{WorkFilled}
 use Rattle.chart.specs.declared.ChartAnswer.{ChartAnswer}
 use Rattle.chart.specs.declared.ChartAnswer.the-variants as chart
-use Rattle.chart.specs.declared.EndsAnswer.the-variants as ends
 use Rattle.chart.specs.Checks.{chartChecks}
 use Rattle.chart.specs.Told.{chartTold}
 

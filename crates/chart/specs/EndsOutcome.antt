@@ -14,7 +14,6 @@ use Rattle.positions.specs.First.{First}
 use Rattle.derivation.specs.Fact.{Fact}
 use Rattle.grammar.specs.Given.{grammarGiven}
 use Rattle.filling.specs.Filled.{WorkFilled}
-use Rattle.chart.specs.declared.ChartAnswer.the-variants as chart
 use Rattle.chart.specs.declared.EndsAnswer.{EndsAnswer}
 use Rattle.chart.specs.declared.EndsAnswer.the-variants as ends
 use Rattle.chart.specs.Checks.{endsChecks}

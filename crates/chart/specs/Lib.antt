@@ -3,3 +3,4 @@ pub mod Prepared
 pub mod Told
 pub mod ChartOutcome
 pub mod EndsOutcome
+pub mod Job

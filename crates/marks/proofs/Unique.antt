@@ -3,7 +3,7 @@ use Prim.Native.Nat.{ℕ, zero, suc, _≤_, _<_}
 use mathlib.Core.Path.{_≡_, refl, sym, ap, _∙_}
 use mathlib.Core.Logic.{_↔_}
 use mathlib.Core.Bool.{Bool, true, false, cond, true≢false}
-use mathlib.Core.List.{List, [], _∷_, head-eq-of-cons-eq}
+use mathlib.Core.List.{List, [], _∷_}
 use native.Mathlib.Decide.{decLt}
 use native.Mathlib.Omega.{arith}
 use lib.ListN.{length, getD, take}
@@ -17,7 +17,6 @@ use Rattle.derivation.proofs.Secret.{secret-iff}
 use Rattle.marks.specs.Marks.{MarkIs, marked, unmarked, MarksAre}
 use Rattle.derivation.proofs.Totals.{total-same}
 use Rattle.refusals.specs.declared.Check.the-variants as check
-use Rattle.refusals.specs.Row.{rowOf}
 use Rattle.refusals.specs.Order.{Checks}
 use Rattle.refusals.specs.Told as told
 use Rattle.checks.proofs.Laws.{one-refusal, not-both, reported-passed}
@@ -70,16 +69,10 @@ marks-computed {G} {line} {marks} {marks′} proper room p =
     let l : t < length line = rw long at h in
     getD-take (length line) marks′ t 0 l ∙ mark-one (p .mark t l) (mark-computed G line t proper) ∙ sym (at-listed _ 0 (length line) t l))
 
--- what an answer tells, its answer is
+-- the values that are told are those of one answer
 told-marked : (a : MarksAnswer) (secret : ℕ) → marksTold a ≡ told.answered (secret ∷ []) → a ≡ answers.Marked secret
-told-marked (answers.Marked x) secret e = ap answers.Marked (head-eq-of-cons-eq (answered-inj e))
-  where
-    answered-inj : told.answered (x ∷ []) ≡ told.answered (secret ∷ []) → x ∷ [] ≡ secret ∷ []
-    answered-inj h = cc
-told-marked (answers.Refused refusal) secret e = absurd (never e)
-  where
-    never : told.refused (rowOf refusal) ≡ told.answered (secret ∷ []) → ⊥
-    never h = let z : _≡_ {A = ℕ} 0 1 = cc in omega arith
+told-marked (answers.Marked x) secret e = cc
+told-marked (answers.Refused refusal) secret e = cc
 
 module _ (g line words depths marks : List ℕ) where
   abbrev checks : Checks

@@ -1,0 +1,79 @@
+-- What Chart and Ends answer where no check refuses: the computed rounds, facts, rows and depths.
+use Prim.Native.Nat.{ℕ, suc, _^_, _<_}
+use mathlib.Core.Path.{_≡_, refl, sym, ap, _∙_}
+use mathlib.Core.Logic.{_↔_}
+use mathlib.Core.Bool.{cond}
+use mathlib.Core.List.{List}
+use native.Mathlib.Decide.{decLt}
+use native.Mathlib.Omega.{arith}
+use lib.ListN.{length, getD}
+use Rattle.refusals.specs.declared.Check.the-variants as check
+use Rattle.refusals.specs.Order.{reported}
+use Rattle.positions.specs.Member.{digit, Member}
+use Rattle.positions.specs.Count.{countBelow}
+use Rattle.positions.specs.First.{First}
+use Rattle.positions.proofs.Digits.{digit-above}
+use Rattle.positions.proofs.Members.{same-members-all}
+use Rattle.derivation.specs.Grammar.{Grammar, Proper}
+use Rattle.derivation.specs.Fact.{Fact}
+use Rattle.derivation.specs.Listing.{listed}
+use Rattle.derivation.specs.Facts.{facts}
+use Rattle.derivation.specs.FactCount.{factCount}
+use Rattle.derivation.specs.RoundsOf.{roundsOf}
+use Rattle.derivation.proofs.Table.{at-listed}
+use Rattle.derivation.proofs.RoundsOf.{rounds-are}
+use Rattle.checks.specs.Question.{startCheck}
+use Rattle.checks.specs.Memory.{workCheck}
+use Rattle.checks.proofs.Laws.{not-both}
+use Rattle.grammar.specs.declared.reading.Sections.{Sections}
+use Rattle.grammar.specs.Value.{grammarOf}
+use Rattle.grammar.proofs.Encoded.{sections-proper}
+use Rattle.filling.specs.Filled.{WorkFilled}
+use Rattle.chart.specs.declared.ChartAnswer.{ChartAnswer}
+use Rattle.chart.specs.declared.ChartAnswer.the-variants as chart
+use Rattle.chart.specs.declared.EndsAnswer.{EndsAnswer}
+use Rattle.chart.specs.declared.EndsAnswer.the-variants as ends
+use Rattle.chart.specs.Checks.{chartChecks, endsChecks, endsQuestion}
+use Rattle.chart.specs.ChartOutcome.{ChartOutcome, turnedDown, filled}
+use Rattle.chart.specs.EndsOutcome.{EndsOutcome, found}
+use Rattle.chart.specs.EndsOutcome as ends-outcome
+use Rattle.chart.proofs.CheckLaws.{Passes, sections, grammar-is, question-is, early-passed}
+use Rattle.chart.proofs.CountLaws.{digit-is, digit-past}
+use Rattle.chart.proofs.Unique.{chart-told, ends-told}
+
+-- a row that shows the ends of (A, i) is the number whose digits are the computed facts
+pub row-is :
+    (G : Grammar) (line : List ℕ) → Proper G → (A i row : ℕ) → ((j : ℕ) → Member row j ↔ Fact G line A i j) → (x : ℕ) → x < 2 ^ suc (length line) →
+    listed (λ j. cond (facts G line A i j) 1 0) 0 (suc (length line)) ≡ listed (digit x) 0 (suc (length line)) → row ≡ x
+row-is G line proper A i row shows x small same = same-members-all row x (λ j. let e = equal j (decLt j (suc (length line))) in (λ m. sym e ∙ m, λ m. e ∙ m))
+  where
+    equal : (j : ℕ) → Dec (j < suc (length line)) → digit row j ≡ digit x j
+    equal j (yes l) =
+        digit-is G line proper A i row shows j
+        ∙ sym (at-listed (λ j. cond (facts G line A i j) 1 0) 0 (suc (length line)) j l)
+        ∙ ap (λ (digits : List ℕ). getD digits j 0) same
+        ∙ at-listed (digit x) 0 (suc (length line)) j l
+    equal j (no n) = digit-past G line proper A i row shows j (omega arith) ∙ sym (digit-above x (suc (length line)) j small (omega arith))
+
+module _ (g line words depths : List ℕ) (s : Sections) (passes : Passes g line s) (memory : workCheck (s .categories) (length line) (length words) (length depths) ≡ check.Passed) where
+  chart-passed : reported (chartChecks g line words depths) ≡ check.Passed
+  chart-passed = rw (early-passed g line s passes words depths check.Passed check.Passed check.Passed refl memory)
+
+  ends-passed : (A i : ℕ) → startCheck (s .categories) (length line) A i ≡ check.Passed → reported (endsChecks g line A i words depths) ≡ check.Passed
+  ends-passed A i e = rw (early-passed g line s passes words depths (endsQuestion g line A i) check.Passed check.Passed (question-is g line s passes A i e) memory)
+
+  pub chart-answered : {answer : ChartAnswer} {words′ depths′ : List ℕ} → ChartOutcome g line words depths answer words′ depths′ →
+      (answer ≡ chart.Filled (roundsOf (grammarOf g s) line) (factCount (grammarOf g s) line)) × WorkFilled (grammarOf g s) line words depths words′ depths′
+  chart-answered (turnedDown p a t w d) = absurd (not-both p chart-passed)
+  chart-answered {answer} (filled p t r f y) =
+      let same = grammar-is g line s passes in
+      let rounds = rounds-are (grammarOf g s) line (sections-proper g s (sections g line s passes)) (rw same at r) in
+      let facts = rw same at f in
+      (chart-told answer t ∙ rw (rounds, facts), rw same at y)
+
+  pub ends-answered : (A i : ℕ) → startCheck (s .categories) (length line) A i ≡ check.Passed →
+      {answer : EndsAnswer} {words′ depths′ : List ℕ} → EndsOutcome g line A i words depths answer words′ depths′ →
+      (row : ℕ) × (smallest : ℕ) × (answer ≡ ends.Row row (countBelow 64 row) smallest) × ((j : ℕ) → Member row j ↔ Fact (grammarOf g s) line A i j) × First row smallest
+  ends-answered A i e (ends-outcome.turnedDown p a t w d) = absurd (not-both p (ends-passed A i e))
+  ends-answered A i e {answer} (found {row = row} {smallest = smallest} p t m c f y) =
+      (row, smallest, ends-told answer t ∙ rw c, rw (grammar-is g line s passes) at m, f)

@@ -1,0 +1,146 @@
+-- What Chart and Ends lead to on the document's job and on the empty line, with work memory of any old contents.
+use Prim.Native.Nat.{ℕ, zero, suc, _+_, _*_, _≤_, _<_}
+use mathlib.Core.Path.{_≡_, refl, _∙_}
+use mathlib.Core.Bool.{cond}
+use mathlib.Core.List.{List, []}
+use native.Mathlib.Omega.{arith}
+use lib.ListN.{length, getD}
+use borrow.Author.Tests.{le-ltb}
+use Rattle.refusals.specs.declared.Check.the-variants as check
+use Rattle.positions.specs.Member.{digit, Member}
+use Rattle.positions.specs.Count.{countBelow}
+use Rattle.positions.specs.First.{First}
+use Rattle.positions.proofs.Unique.{first-unique}
+use Rattle.derivation.specs.Grammar.{Proper}
+use Rattle.derivation.specs.Depth.{Depth, deep}
+use Rattle.derivation.specs.Search.{some}
+use Rattle.derivation.specs.Listing.{listed}
+use Rattle.derivation.specs.Round.{tokenIs, child, children, round}
+use Rattle.derivation.specs.Table.{table, isFound, grade, depths, depthOf}
+use Rattle.derivation.specs.RoundsOf.{greatest, roundsOf}
+use Rattle.derivation.specs.Facts.{facts}
+use Rattle.derivation.specs.FactCount.{total, factCount}
+use Rattle.derivation.proofs.Table.{depthOf-is, depthIs-unique, depthIs-depth}
+use Rattle.checks.specs.Line.{tokensFrom, lineCheck}
+use Rattle.checks.specs.Question.{startCheck}
+use Rattle.checks.specs.Memory.{workCheck}
+use Rattle.grammar.specs.declared.reading.Sections.{Sections}
+use Rattle.grammar.specs.declared.reading.Reading.the-variants.{Accepted}
+use Rattle.grammar.specs.Reading.{eachFrom, ruleFrom, rulesFrom, flagsSection, rulesSection, sectionsOf, readOf}
+use Rattle.grammar.specs.Value.{standing, rulesAt, grammarOf}
+use Rattle.grammar.proofs.Encoded.{accepted-proper}
+use Rattle.filling.specs.Filled.{WorkFilled}
+use Rattle.chart.specs.declared.ChartAnswer.{ChartAnswer}
+use Rattle.chart.specs.declared.ChartAnswer.the-variants as chart
+use Rattle.chart.specs.declared.EndsAnswer.{EndsAnswer}
+use Rattle.chart.specs.declared.EndsAnswer.the-variants as ends
+use Rattle.chart.specs.ChartOutcome.{ChartOutcome}
+use Rattle.chart.specs.EndsOutcome.{EndsOutcome}
+use Rattle.chart.specs.Job.{jobBytes, jobGrammar, jobLine, JobMemory}
+use Rattle.chart.proofs.CheckLaws.{Passes}
+use Rattle.chart.proofs.AnswerLaws.{row-is, chart-answered, ends-answered}
+
+-- the counts and offsets of the job's bytes
+abbrev jobSections : Sections
+jobSections = record { classes = 3; categories = 1; rules = 2; flags = 5; first = 7; end = 15 }
+
+job-read : readOf jobBytes ≡ Accepted jobSections
+unfolding jobBytes readOf sectionsOf flagsSection rulesSection rulesFrom ruleFrom eachFrom
+job-read = refl
+
+job-grammar : grammarOf jobBytes jobSections ≡ jobGrammar
+unfolding jobBytes jobGrammar grammarOf rulesAt standing
+job-grammar = refl
+
+job-proper : Proper jobGrammar
+job-proper = rw job-grammar at (accepted-proper jobBytes jobSections job-read)
+
+job-passes : Passes jobBytes jobLine jobSections
+unfolding jobLine lineCheck tokensFrom
+job-passes = record { read = job-read; line-check = refl }
+
+empty-passes : Passes jobBytes [] jobSections
+unfolding lineCheck tokensFrom
+empty-passes = record { read = job-read; line-check = refl }
+
+-- computed: rounds, facts, the depth of (0, 1, 6), the ends from 1
+job-rounds : roundsOf jobGrammar jobLine ≡ 3
+unfolding jobGrammar jobLine roundsOf greatest depths table listed isFound grade round children child tokenIs some
+job-rounds = refl
+
+job-facts : factCount jobGrammar jobLine ≡ 6
+unfolding jobGrammar jobLine factCount total facts depths table listed isFound grade round children child tokenIs some
+job-facts = refl
+
+job-depth : depthOf jobGrammar jobLine 0 1 6 ≡ 3
+unfolding jobGrammar jobLine depthOf depths table listed isFound grade round children child tokenIs some
+job-depth = refl
+
+pub job-deep : Depth jobGrammar jobLine 0 1 6 3
+job-deep = depthIs-depth (rw job-depth at (depthOf-is jobGrammar jobLine job-proper 0 1 6))
+
+job-row : listed (λ j. cond (facts jobGrammar jobLine 0 1 j) 1 0) 0 7 ≡ listed (digit 84) 0 7
+unfolding jobGrammar jobLine facts depths table listed isFound grade round children child tokenIs some digit
+job-row = refl
+
+empty-rounds : roundsOf jobGrammar [] ≡ 0
+unfolding jobGrammar roundsOf greatest depths table listed isFound grade round children child tokenIs some
+empty-rounds = refl
+
+empty-facts : factCount jobGrammar [] ≡ 0
+unfolding jobGrammar factCount total facts depths table listed isFound grade round children child tokenIs some
+empty-facts = refl
+
+job-smallest : First 84 2
+unfolding digit
+job-smallest = record { within = omega arith; noneBelow = none; found = λ l. refl }
+  where
+    none : (j : ℕ) → j < 2 → Member 84 j → ⊥
+    none zero l m = omega arith
+    none (suc zero) l m = omega arith
+    none (suc (suc j)) l m = omega arith
+
+job-count : countBelow 64 84 ≡ 3
+unfolding countBelow digit
+job-count = refl
+
+module _ {words depths : List ℕ} (memory : JobMemory words depths) where
+  job-memory : workCheck 1 (length jobLine) (length words) (length depths) ≡ check.Passed
+  unfolding jobLine
+  job-memory = rw (le-ltb (length words) 7 (memory .words-long), le-ltb (length depths) 49 (memory .depths-long))
+
+  empty-memory : workCheck 1 0 (length words) (length depths) ≡ check.Passed
+  empty-memory = rw (le-ltb (length words) 1 (omega arith), le-ltb (length depths) 1 (omega arith))
+
+  -- the work memory holds the chart and the depths of the job's line
+  pub job-filled : {answer : ChartAnswer} {words′ depths′ : List ℕ} → ChartOutcome jobBytes jobLine words depths answer words′ depths′ → WorkFilled jobGrammar jobLine words depths words′ depths′
+  job-filled o = rw job-grammar at (chart-answered jobBytes jobLine words depths jobSections job-passes job-memory o .1)
+
+  -- rounds 3 facts 6; the row of (0, 1) is 84, and the depth of (0, 1, 6) is 3
+  pub job-outcome : {answer : ChartAnswer} {words′ depths′ : List ℕ} → ChartOutcome jobBytes jobLine words depths answer words′ depths′ →
+      (answer ≡ chart.Filled 3 6) × (getD words′ 1 0 ≡ 84) × (getD depths′ (1 * 7 + 6) 0 ≡ 3)
+  unfolding jobGrammar jobLine
+  job-outcome o =
+      let filled = job-filled o in (
+        chart-answered jobBytes jobLine words depths jobSections job-passes job-memory o .0 ∙ rw (job-grammar, job-rounds, job-facts),
+        row-is jobGrammar jobLine job-proper 0 1 _ (filled .word 0 1 (omega arith) (omega arith)) 84 (omega arith) job-row,
+        depthIs-unique (filled .depth 0 1 6 (omega arith) (omega arith) (omega arith)) (deep job-deep),
+      )
+
+  -- on the empty line: no fact, rounds 0, and the chart is one word
+  pub empty-outcome : {answer : ChartAnswer} {words′ depths′ : List ℕ} → ChartOutcome jobBytes [] words depths answer words′ depths′ →
+      (answer ≡ chart.Filled 0 0) × ((q : ℕ) → 1 ≤ q → getD words′ q 0 ≡ getD words q 0)
+  unfolding jobGrammar
+  empty-outcome o =
+      let e = chart-answered jobBytes [] words depths jobSections empty-passes empty-memory o in
+      let filled : WorkFilled jobGrammar [] words depths _ _ = rw job-grammar at (e .1) in
+      (e .0 ∙ rw (job-grammar, empty-rounds, empty-facts), filled .words-past)
+
+  -- the row of (0, 1) is 84, three ends, smallest 2
+  pub job-ends : {answer : EndsAnswer} {words′ depths′ : List ℕ} → EndsOutcome jobBytes jobLine 0 1 words depths answer words′ depths′ → answer ≡ ends.Row 84 3 2
+  unfolding jobLine startCheck
+  job-ends o =
+      let e = ends-answered jobBytes jobLine words depths jobSections job-passes job-memory 0 1 refl o in
+      let row = row-is jobGrammar jobLine job-proper 0 1 (e .0) (rw job-grammar at (e .3)) 84 (omega arith) job-row in
+      let smallest = first-unique 84 (e .1) 2 (rw row at (e .4)) job-smallest in
+      e .2 ∙ rw (row, smallest, job-count)
