@@ -31,10 +31,12 @@ pub record RulesApplied (G : Grammar) (masks : List ℕ) (changed : ℕ) (words 
       (A i : ℕ) → A < length (G .categories) → i ≤ length line → (j : ℕ) →
       Member (getD new (A * width + i) 0) j ↔ (Member (getD old (A * width + i) 0) j ⊎ ByRule G line h masks changed A i j)
 
--- which categories changed in round h: at the start 32 alone, which rules without categories have; after a round those with a fact of depth h
+-- category A has a fact of depth h + 1
 abbrev pub Gain : Grammar → List ℕ → ℕ → ℕ → Type 0
 Gain G line h A = (i : ℕ) × (j : ℕ) × Within G line (suc h) A i j × (Within G line h A i j → ⊥)
 
+-- what has changed after h rounds: at the start 32 alone, which the masks of rules without categories have;
+-- after a round the categories that have a fact of its depth
 pub data Changed (G : Grammar) (line : List ℕ) : ℕ → ℕ → Type 0 where
   start : {changed : ℕ} → ((A : ℕ) → Member changed A ↔ (A ≡ 32)) → Changed G line 0 changed
   after : {h changed : ℕ} → ((A : ℕ) → Member changed A ↔ ((A < length (G .categories)) × Gain G line h A)) → Changed G line (suc h) changed
