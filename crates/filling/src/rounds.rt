@@ -16,8 +16,8 @@ use super::tables::class_places;
 use super::tables::rule_masks;
 use grammar::reading::Sections;
 use grammar::rules::rule_left;
-use grammar::rules::rule_starts;
 use grammar::rules::rule_symbols;
+use grammar::view::rule_starts_of;
 
 // The first `count` words are 0.
 fn clear_words(words: &mut [u64], count: usize)
@@ -80,7 +80,7 @@ pub fn fill(g: &[u8], s: Sections, line: &[u8], words: &mut [u64], depths: &mut 
     let rows = categories * width;
     clear_words(words, rows);
     clear_depths(depths, rows * width);
-    let starts = rule_starts(g, s);
+    let starts = rule_starts_of(g, s);
     let masks = rule_masks(g, s, &starts);
     let places = class_places(line);
     let mut next = [0u64; 2048];

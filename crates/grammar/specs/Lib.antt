@@ -5,3 +5,4 @@ pub mod Starts
 pub mod Limits
 pub mod Encoding
 pub mod Given
+pub mod View

@@ -1,3 +1,4 @@
 // Grammar bytes: how they are read, and what they stand for.
 pub mod reading; // reading.rt: three sections, accepted or refused
 pub mod rules; // rules.rt: the rules and flags of read sections
+pub mod view; // view.rt: the checked grammar as a view of the caller's bytes

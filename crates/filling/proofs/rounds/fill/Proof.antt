@@ -53,8 +53,8 @@ mul-clear-depths c = search needs
 clear-depths-requires : tie.Need-clear-depths-requires Inv-loop μ-loop
 clear-depths-requires c κs = search needs
 
-rule-starts-requires : tie.Need-rule-starts-requires Inv-loop μ-loop
-rule-starts-requires c κs = search needs
+rule-starts-of-requires : tie.Need-rule-starts-of-requires Inv-loop μ-loop
+rule-starts-of-requires c κs = search needs
 
 rule-masks-requires : tie.Need-rule-masks-requires Inv-loop μ-loop
 rule-masks-requires c κs = search needs
@@ -143,7 +143,7 @@ fill-spec =
     clear-words-requires
     mul-clear-depths
     clear-depths-requires
-    rule-starts-requires
+    rule-starts-of-requires
     rule-masks-requires
     class-places-requires
     insert-requires
