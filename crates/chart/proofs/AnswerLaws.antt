@@ -13,7 +13,7 @@ use Rattle.positions.specs.Member.{digit, Member}
 use Rattle.positions.specs.Count.{countBelow}
 use Rattle.positions.specs.First.{First}
 use Rattle.positions.proofs.Digits.{digit-above}
-use Rattle.positions.proofs.Members.{same-members-all}
+use Rattle.positions.proofs.Members.{same-members}
 use Rattle.derivation.specs.Grammar.{Grammar, Proper}
 use Rattle.derivation.specs.Fact.{Fact}
 use Rattle.derivation.specs.Listing.{listed}
@@ -45,7 +45,7 @@ use Rattle.chart.proofs.Unique.{chart-told, ends-told}
 pub row-is :
     (G : Grammar) (line : List ℕ) → Proper G → (A i row : ℕ) → ((j : ℕ) → Member row j ↔ Fact G line A i j) → (x : ℕ) → x < 2 ^ suc (length line) →
     listed (λ j. cond (facts G line A i j) 1 0) 0 (suc (length line)) ≡ listed (digit x) 0 (suc (length line)) → row ≡ x
-row-is G line proper A i row shows x small same = same-members-all row x (λ j. let e = equal j (decLt j (suc (length line))) in (λ m. sym e ∙ m, λ m. e ∙ m))
+row-is G line proper A i row shows x small same = same-members row x (λ j. let e = equal j (decLt j (suc (length line))) in (λ m. sym e ∙ m, λ m. e ∙ m))
   where
     equal : (j : ℕ) → Dec (j < suc (length line)) → digit row j ≡ digit x j
     equal j (yes l) =

@@ -5,7 +5,7 @@ use mathlib.Core.List.{List, [], _∷_}
 use Rattle.refusals.specs.declared.Check.the-variants as check
 use Rattle.refusals.specs.Told as told
 use Rattle.positions.specs.Count.{countBelow}
-use Rattle.positions.proofs.Members.{same-members-all}
+use Rattle.positions.proofs.Members.{same-members}
 use Rattle.positions.proofs.Unique.{first-unique}
 use Rattle.derivation.proofs.Rounds.{rounds-unique}
 use Rattle.checks.proofs.Laws.{one-refusal, not-both}
@@ -49,7 +49,7 @@ module _ (g line words depths : List ℕ) where
   ends-unique A i (found p t m c f y) (ends-outcome.turnedDown q b t′ x e) = absurd (not-both q p)
   ends-unique A i {a} {b} (found p t m c f y) (found q t′ m′ c′ f′ y′) =
       let memory = filled-unique (grammarGiven g) line words depths y y′ in
-      let row = same-members-all _ _ (λ j. (λ h. m′ j .1 (m j .0 h), λ h. m j .1 (m′ j .0 h))) in
+      let row = same-members _ _ (λ j. (λ h. m′ j .1 (m j .0 h), λ h. m j .1 (m′ j .0 h))) in
       let count = c ∙ ap (countBelow 64) row ∙ sym c′ in
       let smallest = first-unique _ _ _ f (rw (← row) at f′) in
       (ends-told a t ∙ rw (row, count, smallest) (sym (ends-told b t′)), memory .0, memory .1)

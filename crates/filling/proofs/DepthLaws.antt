@@ -16,17 +16,17 @@ module _ (base depth : ℕ) where
   deepened-none table = record { long = refl; hit = λ j m. absurd (none-member j m); miss = λ q n. refl }
 
   -- the entry of a member j, and then those of the set less j
-  pub deepened-less : (j : ℕ) → j < 64 → (members : ℕ) → Member members j → (old new : List ℕ) → base + j < length old →
+  pub deepened-less : (j members : ℕ) → Member members j → (old new : List ℕ) → base + j < length old →
       Deepened base (members - 2 ^ j) depth (set old (base + j) depth) new → Deepened base members depth old new
-  deepened-less j l members m old new h d = record {
+  deepened-less j members m old new h d = record {
     long = d .long ∙ length-set old (base + j) depth;
     hit = λ i k. at i k (ℕ-discrete i j);
-    miss = λ q n. d .miss q (λ i k. n i (less-member members j l m i .0 k .0)) ∙ getD-set-other old (base + j) q depth 0 (n j m);
+    miss = λ q n. d .miss q (λ i k. n i (less-member members j m i .0 k .0)) ∙ getD-set-other old (base + j) q depth 0 (n j m);
   }
     where
       own : getD new (base + j) 0 ≡ depth
-      own = d .miss (base + j) (λ i k e. less-member members j l m i .0 k .1 (omega arith)) ∙ getD-set-same old (base + j) depth 0 h
+      own = d .miss (base + j) (λ i k e. less-member members j m i .0 k .1 (omega arith)) ∙ getD-set-same old (base + j) depth 0 h
 
       at : (i : ℕ) → Member members i → Dec (i ≡ j) → getD new (base + i) 0 ≡ depth
       at i k (yes e) = rw e own
-      at i k (no n) = d .hit i (less-member members j l m i .1 (k, n))
+      at i k (no n) = d .hit i (less-member members j m i .1 (k, n))

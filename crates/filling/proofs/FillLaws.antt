@@ -1,5 +1,5 @@
 -- The fill: what holds after h rounds, what a round makes of it, and what it is once a round adds nothing.
-use Prim.Native.Nat.{ℕ, zero, suc, pred, _+_, _-_, _*_, _^_, _≤_, _<_, zero-le}
+use Prim.Native.Nat.{ℕ, zero, suc, pred, _+_, _-_, _*_, _≤_, _<_, zero-le}
 use mathlib.Core.Path.{_≡_, refl, sym, _∙_, ap}
 use mathlib.Core.Logic.{_↔_, _⊎_, inl, inr}
 use mathlib.Core.List.{List, _++_}
@@ -67,17 +67,17 @@ module _ {G : Grammar} {line : List ℕ} where
       go (found l p) = p
 
   -- after a round that found something there is a fact of that depth
-  pub changed-depth : {h changed : ℕ} → 0 < changed → changed < 2 ^ 64 → Changed G line (suc h) changed → (A : ℕ) × (i : ℕ) × (j : ℕ) × Depth G line A i j (suc h)
-  changed-depth {h} {changed} some word (after gains) =
-      let m = some-member changed some word in
-      let g = gain-depth (gains (m .0) .0 (m .2) .1) in
+  pub changed-depth : {h changed : ℕ} → 0 < changed → Changed G line (suc h) changed → (A : ℕ) × (i : ℕ) × (j : ℕ) × Depth G line A i j (suc h)
+  changed-depth {h} {changed} some (after gains) =
+      let m = some-member changed some in
+      let g = gain-depth (gains (m .0) .0 (m .1) .1) in
       (m .0, g .0, g .1, g .2)
 
   -- so there are at most 2048 such rounds
-  pub rounds-few : Given G line → {h changed : ℕ} → 0 < changed → changed < 2 ^ 64 → Changed G line h changed → h ≤ 2048
-  rounds-few given {h = zero} some word c = zero-le
-  rounds-few given {h = suc h} some word c =
-      let p = changed-depth some word c in
+  pub rounds-few : Given G line → {h changed : ℕ} → 0 < changed → Changed G line h changed → h ≤ 2048
+  rounds-few given {h = zero} some c = zero-le
+  rounds-few given {h = suc h} some c =
+      let p = changed-depth some c in
       le-trans (rounds-bound G line (given .proper) (p .3)) (mul-le-mul {n₂ = 32} {m₂ = 64} (given .limits .categories) (omega (arith, given .short)))
 
 -- nothing changed: some round was run
@@ -146,7 +146,7 @@ module _ {G : Grammar} {line : List ℕ} (given : Given G line) (h changed : ℕ
     grows = rw (← count) next-grows;
   }
 
-  module _ (words′ depths′ : List ℕ) (changed′ : ℕ) (some : 0 < changed) (word : changed < 2 ^ 64)
+  module _ (words′ depths′ : List ℕ) (changed′ : ℕ) (some : 0 < changed)
       (committed : AllCommitted (length (G .categories)) (length line + 1) (suc h) words next′ depths words′ depths′ changed′) where
     -- the depth of (A, i, j) after the round
     depth-after : DepthsAfter G line (suc h) depths′
@@ -196,14 +196,14 @@ module _ {G : Grammar} {line : List ℕ} (given : Given G line) (h changed : ℕ
       depths-long = committed .committed .depths-long ∙ done .depths-long;
       depths-past = λ e l. committed .committed .deep-else e (λ q b x y new z. omega (arith, row-inside q (chartSize (length (G .categories)) (length line)) (length line + 1) b y (next-narrow q b y (new .found)))) ∙ done .depths-past e l;
       changes = after changed-after;
-      met = λ k e. let z : h ≡ suc k = omega arith in changed-depth some word (rw z at (done .changes));
+      met = λ k e. let z : h ≡ suc k = omega arith in changed-depth some (rw z at (done .changes));
     }
 
   pub round-done :
-      (words′ depths′ : List ℕ) (changed′ N : ℕ) → length (G .categories) ≡ N → 0 < changed → changed < 2 ^ 64 →
+      (words′ depths′ : List ℕ) (changed′ N : ℕ) → length (G .categories) ≡ N → 0 < changed →
       AllCommitted N (length line + 1) (h + 1) words next′ depths words′ depths′ changed′ → Done G line (h + 1) changed′ words₀ depths₀ words′ next′ depths′
-  round-done words′ depths′ changed′ N count some word committed =
-      rw (add-one h) (round-done-suc words′ depths′ changed′ some word (rw (← count, add-one h) at committed))
+  round-done words′ depths′ changed′ N count some committed =
+      rw (add-one h) (round-done-suc words′ depths′ changed′ some (rw (← count, add-one h) at committed))
 
 -- before the first round, with cleared memory
 module _ (G : Grammar) (line : List ℕ) (changed : ℕ) (words depths words₀ depths₀ : List ℕ) (N : ℕ) (count : length (G .categories) ≡ N) (alone : With 0 32 changed)

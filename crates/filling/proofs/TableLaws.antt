@@ -1,19 +1,16 @@
 -- The tables that are worked out before the first round, made one entry at a time.
-use Prim.Native.Nat.{ℕ, _+_, _-_, _^_, _≤_, _<_}
+use Prim.Native.Nat.{ℕ, _+_, _-_, _≤_, _<_}
 use mathlib.Core.Path.{_≡_, refl, sym, ap, _∙_}
-use mathlib.Core.Logic.{_⊎_, inl, inr, ⊎-elim, _↔_}
+use mathlib.Core.Logic.{inl, inr, ⊎-elim, _↔_}
 use mathlib.Core.List.{List}
-use native.Mathlib.Nat.{eq-or-lt-of-le, eq-zero-or-pos}
+use native.Mathlib.Nat.{eq-or-lt-of-le}
 use native.Mathlib.Decide.{ℕ-discrete, decLt}
 use native.Mathlib.Omega.{arith}
-use lib.Pow.{pow-mono, pow-pos}
-use lib.Count.{leading-top}
 use lib.ListN.{length, getD, set, replicate, length-set, length-replicate, getD-replicate, List·getD-eq-default}
 use lib.Seq.{getD-set-same, getD-set-other}
 use Rattle.positions.specs.Member.{Member}
 use Rattle.positions.specs.With.{With}
-use Rattle.positions.proofs.Digits.{digit-top}
-use Rattle.positions.proofs.Members.{none-member, some-member}
+use Rattle.positions.proofs.Members.{none-member, some-member, word-below}
 use Rattle.derivation.specs.Grammar.{ruleAt, Among}
 use Rattle.grammar.specs.declared.reading.Sections.{Sections}
 use Rattle.grammar.specs.Value.{Sectioned, grammarOf}
@@ -31,36 +28,23 @@ pub set-each :
 set-each P l i a h new old q =
     elim (ℕ-discrete q i) [ yes e ↦ rw (e, getD-set-same l i a 0 h) new | no n ↦ rw (getD-set-other l i q a 0 n) (old q n) ]
 
--- a word that has no member from k on is below 2 ^ k
-pub word-below : (x k : ℕ) → x < 2 ^ 64 → ((j : ℕ) → Member x j → j < k) → x < 2 ^ k
-word-below x k h below = ⊎-elim (λ e. rw e (pow-pos k)) some (eq-zero-or-pos x)
-  where
-    some : 0 < x → x < 2 ^ k
-    some p =
-        let t = leading-top 64 x p h in
-        let l : t .0 < k = below (t .0) (digit-top x (t .0) (t .2) (t .3)) in
-        omega (arith, t .3, pow-mono l)
-
 -- word c is the set of the positions, below m, of the tokens of class c
 pub record PlacesBelow (line : List ℕ) (m : ℕ) (places : List ℕ) : Type 0 where
   pub long : length places ≡ 128
-  pub words : (c : ℕ) → getD places c 0 < 2 ^ 64
   pub holds : (c k : ℕ) → Member (getD places c 0) k ↔ ((k < m) × (getD line k 0 ≡ c))
 
 module _ (line : List ℕ) where
   pub places-none : PlacesBelow line 0 (replicate 128 0)
   places-none = record {
     long = refl;
-    words = λ c. rw (zeros-at 128 c) (pow-pos 64);
     holds = λ c k. rw (zeros-at 128 c) (λ h. absurd (none-member k h), λ h. absurd (omega (arith, h .0)));
   }
 
   pub places-more :
-      (m word : ℕ) (places : List ℕ) → getD line m 0 < 128 → word < 2 ^ 64 → With (getD places (getD line m 0) 0) m word → PlacesBelow line m places →
+      (m word : ℕ) (places : List ℕ) → getD line m 0 < 128 → With (getD places (getD line m 0) 0) m word → PlacesBelow line m places →
       PlacesBelow line (m + 1) (set places (getD line m 0) word)
-  places-more m word places h w new x = record {
+  places-more m word places h new x = record {
     long = length-set places (getD line m 0) word ∙ x .long;
-    words = set-each (λ q v. v < 2 ^ 64) places (getD line m 0) word inside w (λ q n. x .words q);
     holds = set-each (λ q v. (k : ℕ) → Member v k ↔ ((k < m + 1) × (getD line k 0 ≡ q))) places (getD line m 0) word inside same other;
   }
     where
@@ -86,25 +70,23 @@ module _ (line : List ℕ) where
   pub places-all : (places : List ℕ) → length line ≤ 63 → PlacesBelow line (length line) places → Places line places
   places-all places h x = record {
     long = x .long;
-    small = λ c. word-below (getD places c 0) 63 (x .words c) (λ k j. omega (arith, x .holds c k .0 j .0));
+    small = λ c. word-below (getD places c 0) 63 (λ k j. omega (arith, x .holds c k .0 j .0));
     holds = λ c l k. x .holds c k;
   }
 
 -- the mask has the categories that stand among the first d symbols
 pub record MaskBelow (symbols : List ℕ) (d mask : ℕ) : Type 0 where
-  pub word : mask < 2 ^ 64
   pub holds : (B : ℕ) → Member mask B ↔ ((e : ℕ) × (e < d) × (getD symbols e 0 ≡ 128 + B))
 
 module _ (symbols : List ℕ) where
   pub mask-none : MaskBelow symbols 0 0
-  mask-none = record { word = pow-pos 64; holds = λ B. (λ h. absurd (none-member B h), λ h. absurd (omega (arith, h .1))) }
+  mask-none = record { holds = λ B. (λ h. absurd (none-member B h), λ h. absurd (omega (arith, h .1))) }
 
   -- symbol d is a category, which joins
   pub mask-more :
-      (d mask word : ℕ) → 128 ≤ getD symbols d 0 → word < 2 ^ 64 → With mask (getD symbols d 0 - 128) word → MaskBelow symbols d mask →
+      (d mask word : ℕ) → 128 ≤ getD symbols d 0 → With mask (getD symbols d 0 - 128) word → MaskBelow symbols d mask →
       MaskBelow symbols (d + 1) word
-  mask-more d mask word h w new x = record {
-    word = w;
+  mask-more d mask word h new x = record {
     holds = λ B. (
       λ j. ⊎-elim (λ o. let s = x .holds B .0 o in (s .0, omega (arith, s .1), s .2)) (λ e. (d, omega arith, omega arith)) (new B .0 j),
       λ s. ⊎-elim (λ e. new B .1 (inr (omega (arith, s .2, ap (λ (y : ℕ). getD symbols y 0) e)))) (λ l. new B .1 (inl (x .holds B .1 (s .0, l, s .2))))
@@ -115,7 +97,6 @@ module _ (symbols : List ℕ) where
   -- symbol d is a class
   pub mask-skip : (d mask : ℕ) → getD symbols d 0 < 128 → MaskBelow symbols d mask → MaskBelow symbols (d + 1) mask
   mask-skip d mask h x = record {
-    word = x .word;
     holds = λ B. (
       λ j. let s = x .holds B .0 j in (s .0, omega (arith, s .1), s .2),
       λ s. ⊎-elim (λ e. absurd (omega (arith, s .2, ap (λ (y : ℕ). getD symbols y 0) e))) (λ l. x .holds B .1 (s .0, l, s .2))
@@ -141,7 +122,7 @@ module _ (symbols : List ℕ) where
   pub mask-some : (mask : ℕ) → ((d : ℕ) → d < length symbols → getD symbols d 0 < 160) → 0 < mask → MaskBelow symbols (length symbols) mask → MaskOf symbols mask
   mask-some mask known p x = record {
     category = λ B l. x .holds B;
-    none = (λ j. absurd (omega (arith, small 32 j)), λ n. let m = some-member mask p (x .word) in absurd (n (m .0) (x .holds (m .0) .0 (m .2))));
+    none = (λ j. absurd (omega (arith, small 32 j)), λ n. let m = some-member mask p in absurd (n (m .0) (x .holds (m .0) .0 (m .1))));
     within = λ B j. omega (arith, small B j);
   }
     where

@@ -6,8 +6,9 @@ use native.Mathlib.Decide.{decLt}
 use native.Mathlib.Omega.{arith}
 use lib.ListN.{length, getD}
 use lib.Seq.{ext-getD}
-use Rattle.positions.proofs.Members.{same-members-all}
+use Rattle.positions.proofs.Unique.{described}
 use Rattle.derivation.specs.Grammar.{Grammar}
+use Rattle.derivation.specs.Fact.{Fact}
 use Rattle.derivation.proofs.Table.{depthIs-unique}
 use Rattle.derivation.proofs.Rounds.{rounds-unique}
 use Rattle.checks.specs.Memory.{chartSize, depthsSize}
@@ -30,10 +31,7 @@ module _ (G : Grammar) (line words depths : List ℕ) {a b c d : List ℕ} (x : 
   same-word q l =
       let r = row-of q (length (G .categories)) (length line + 1) (omega arith) l in
       let i : r .1 ≤ length line = omega (arith, r .3) in
-      rw (r .4) (same-members-all _ _ (λ j. (
-        λ m. y .word (r .0) (r .1) (r .2) i j .1 (x .word (r .0) (r .1) (r .2) i j .0 m),
-        λ m. x .word (r .0) (r .1) (r .2) i j .1 (y .word (r .0) (r .1) (r .2) i j .0 m),
-      )))
+      rw (r .4) (described (Fact G line (r .0) (r .1)) _ _ (x .word (r .0) (r .1) (r .2) i) (y .word (r .0) (r .1) (r .2) i))
 
   -- a number below the depths' size is that of some category, start and end
   same-depth : (q : ℕ) → q < depthsSize (length (G .categories)) (length line) → getD b q 0 ≡ getD d q 0

@@ -28,7 +28,7 @@ module _ (g : List ℕ) (count at : ℕ) (inside : at + count ≤ length g) wher
   flags-within good i l = let c : i < count = rw part at l in rw (part-at g count at i c) (good i c)
 
   -- they stand after their count, and the other bytes after them
-  counted : (start : ℕ) → suc start ≡ at → byte g start ≡ count → drop start g ≡ (length (take count (drop at g)) ∷ take count (drop at g)) ++ drop (at + count) g
+  pub counted : (start : ℕ) → suc start ≡ at → byte g start ≡ count → drop start g ≡ (length (take count (drop at g)) ∷ take count (drop at g)) ++ drop (at + count) g
   counted start e c =
       drop-cons g start 0 (omega arith)
       ∙ rw (e, c, part) (ap (λ (rest : List ℕ). count ∷ rest) (sym (take-append-drop count (drop at g)) ∙ rw (drop-drop count at g)))

@@ -31,21 +31,21 @@ module _ (g rest : List ℕ) (y at : ℕ) (e : drop at g ≡ y ∷ rest) where
   byte-inside : at < length g
   byte-inside = let l : length g - at ≡ suc (length rest) = sym (length-drop at g) ∙ ap length e in omega arith
 
-  byte-is : byte g at ≡ y
+  pub byte-is : byte g at ≡ y
   byte-is = let z : at ≡ at + 0 = omega arith in rw z (sym (getD-drop at g 0 0) ∙ ap (λ (l : List ℕ). getD l 0 0) e)
 
-  byte-after : drop (at + 1) g ≡ rest
+  pub byte-after : drop (at + 1) g ≡ rest
   byte-after = sym (drop-drop 1 at g) ∙ ap (drop 1) e
 
 -- bytes that stand at a position
 module _ (g x rest : List ℕ) (at : ℕ) (e : drop at g ≡ x ++ rest) where
-  bytes-are : take (length x) (drop at g) ≡ x
+  pub bytes-are : take (length x) (drop at g) ≡ x
   bytes-are = rw e (take-append-seam x rest)
 
   bytes-at : (i : ℕ) → i < length x → byte g (at + i) ≡ getD x i 0
   bytes-at i l = sym (getD-drop at g i 0) ∙ rw e (List·getD-append x rest 0 i l)
 
-  bytes-after : drop (at + length x) g ≡ rest
+  pub bytes-after : drop (at + length x) g ≡ rest
   bytes-after = sym (drop-drop (length x) at g) ∙ rw e (drop-append-seam x rest)
 
   bytes-inside : at ≤ length g → at + length x ≤ length g

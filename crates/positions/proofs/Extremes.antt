@@ -41,8 +41,8 @@ first-trailing x = record { within = trailing-le 64 x; noneBelow = trailing-belo
 -- 64 is for the empty set alone
 pub first-empty : (set r : ℕ) → set < 2 ^ 64 → First set r → (r ≡ 64) ↔ (set ≡ 0)
 first-empty set r h p = (
-  λ e. empty-word set h .1 (λ j m. p .noneBelow j (omega (arith, member-below set 64 j h m)) m),
-  λ e. let n : r < 64 → ⊥ = λ l. empty-word set h .0 e r (p .found l) in omega (arith, p .within),
+  λ e. empty-word set .1 (λ j m. p .noneBelow j (omega (arith, member-below set 64 j h m)) m),
+  λ e. let n : r < 64 → ⊥ = λ l. empty-word set .0 e r (p .found l) in omega (arith, p .within),
 )
 
 pub last-leading : (x : ℕ) → 0 < x → x < 2 ^ 64 → Last x (63 - leadingZeros 64 x)

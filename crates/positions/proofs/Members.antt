@@ -3,10 +3,10 @@ use mathlib.Core.Path.{_≡_, refl, sym, ap, ap₂, _∙_}
 use mathlib.Core.Logic.{_⊎_, inl, inr, ⊎-elim, _↔_}
 use mathlib.Core.Bool.{Bool, true, false}
 use Prim.Native.Nat.{ℕ, zero, suc, _+_, _-_, _^_, _≤_, _<_}
-use native.Mathlib.Nat.{pow-suc, lt-of-lt-of-le, le-add-right, le-add-left}
+use native.Mathlib.Nat.{pow-suc, lt-of-lt-of-le, le-add-right, le-add-left, eq-zero-or-pos}
 use native.Mathlib.Omega.{arith}
 use lib.Dec.{eqb}
-use lib.Pow.{pow-pos, pow-lt, pow-mono}
+use lib.Pow.{pow-pos, pow-mono}
 use lib.Bits.{bitOr, bitAnd, bitXor, differ, and-le-l, and-le-r, xor-add-and}
 use lib.Count.{leading-top}
 use borrow.Author.Tests.{eqb-true, eqb-false}
@@ -78,45 +78,47 @@ xor-member a b j s = go (member? a j) (member? b j)
         let z : digit (bitXor a b) j ≡ 0 = digit-xor a b j ∙ ap₂ differ (no-digit a j n) (no-digit b j (λ m. n (s m))) in
         (λ m. absurd (omega arith), λ p. absurd (n (p .0)))
 
--- two words with the same members have the same digits, and so are equal
-same-digit : (a b : ℕ) → ((j : ℕ) → Member a j ↔ Member b j) → (j : ℕ) → digit a j ≡ digit b j
-same-digit a b h j = ⊎-elim (λ m. m ∙ sym (h j .0 m)) (λ n. no-digit a j n ∙ sym (no-digit b j (λ m. n (h j .1 m)))) (member? a j)
-
-pub same-members : (a b : ℕ) → a < 2 ^ 64 → b < 2 ^ 64 → ((j : ℕ) → Member a j ↔ Member b j) → a ≡ b
-same-members a b ha hb h = same-digits 64 a b ha hb (λ j l. same-digit a b h j)
-
--- a word is 0 exactly where it has no member, and a word that is not 0 has one
-pub empty-word : (x : ℕ) → x < 2 ^ 64 → (x ≡ 0) ↔ ((j : ℕ) → Member x j → ⊥)
-empty-word x h = (
-  λ e j m. none-member j (ap (λ (y : ℕ). digit y j) (sym e) ∙ m),
-  λ n. same-members x 0 h (pow-pos 64) (λ j. (λ m. absurd (n j m), λ m. absurd (none-member j m))),
-)
-
 lt-power : (x : ℕ) → x < 2 ^ x
 lt-power zero = pow-pos 0
 lt-power (suc x) = omega (arith, pow-suc 2 x, lt-power x)
 
--- and so for numbers of any length
-pub same-members-all : (a b : ℕ) → ((j : ℕ) → Member a j ↔ Member b j) → a ≡ b
-same-members-all a b h =
+-- two words with the same members have the same digits, and so are equal
+same-digit : (a b : ℕ) → ((j : ℕ) → Member a j ↔ Member b j) → (j : ℕ) → digit a j ≡ digit b j
+same-digit a b h j = ⊎-elim (λ m. m ∙ sym (h j .0 m)) (λ n. no-digit a j n ∙ sym (no-digit b j (λ m. n (h j .1 m)))) (member? a j)
+
+pub same-members : (a b : ℕ) → ((j : ℕ) → Member a j ↔ Member b j) → a ≡ b
+same-members a b h =
     same-digits (a + b) a b (lt-of-lt-of-le (lt-power a) (pow-mono (le-add-right a b))) (lt-of-lt-of-le (lt-power b) (pow-mono (le-add-left b a)))
     (λ j l. same-digit a b h j)
 
-has-member : (x : ℕ) → 0 < x → (j : ℕ) × Member x j
-has-member x p = let t = leading-top x x p (lt-power x) in (t .0, digit-top x (t .0) (t .2) (t .3))
+-- a word is 0 exactly where it has no member
+pub empty-word : (x : ℕ) → (x ≡ 0) ↔ ((j : ℕ) → Member x j → ⊥)
+empty-word x = (
+  λ e j m. none-member j (ap (λ (y : ℕ). digit y j) (sym e) ∙ m),
+  λ n. same-members x 0 (λ j. (λ m. absurd (n j m), λ m. absurd (none-member j m))),
+)
 
-pub some-member : (x : ℕ) → 0 < x → x < 2 ^ 64 → (j : ℕ) × (j < 64) × Member x j
-some-member x p h = let t = has-member x p in (t .0, member-below x 64 (t .0) h (t .1), t .1)
+-- a word that is not 0 has a member: the digit that gives it its length
+top-member : (x : ℕ) → 0 < x → (j : ℕ) × Member x j × (x < 2 ^ suc j)
+top-member x p = let t = leading-top x x p (lt-power x) in (t .0, digit-top x (t .0) (t .2) (t .3), t .3)
+
+pub some-member : (x : ℕ) → 0 < x → (j : ℕ) × Member x j
+some-member x p = let t = top-member x p in (t .0, t .1)
+
+-- a word whose members lie below k is below 2 ^ k
+pub word-below : (x k : ℕ) → ((j : ℕ) → Member x j → j < k) → x < 2 ^ k
+word-below x k below =
+    ⊎-elim (λ e. rw e (pow-pos k)) (λ p. let t = top-member x p in lt-of-lt-of-le (t .2) (pow-mono (below (t .0) (t .1)))) (eq-zero-or-pos x)
 
 -- two words that differ do so at some position
 pub xor-some : (a b : ℕ) → (a ≡ b → ⊥) → (j : ℕ) × Member (bitXor a b) j
-xor-some a b n = has-member (bitXor a b) (omega (arith, xor-add-and a b, and-le-l a b, and-le-r a b))
+xor-some a b n = some-member (bitXor a b) (omega (arith, xor-add-and a b, and-le-l a b, and-le-r a b))
 
 -- a member k as a word of one digit, and the word less it
-module _ (x k : ℕ) (l : k < 64) (m : Member x k) where
+module _ (x k : ℕ) (m : Member x k) where
   and-one : bitAnd x (2 ^ k) ≡ 2 ^ k
   and-one =
-      same-members (bitAnd x (2 ^ k)) (2 ^ k) (omega (arith, and-le-r x (2 ^ k), pow-lt l)) (pow-lt l)
+      same-members (bitAnd x (2 ^ k)) (2 ^ k)
       (λ j. (λ h. and-member x (2 ^ k) j .0 h .1, λ h. and-member x (2 ^ k) j .1 (rw (one-member k j .0 h) m, h)))
 
   pub one-le : 2 ^ k ≤ x

@@ -2,7 +2,7 @@
 use mathlib.Core.Path.{_≡_}
 use mathlib.Core.Logic.{_↔_}
 use mathlib.Core.List.{List}
-use Prim.Native.Nat.{ℕ, _^_, _<_}
+use Prim.Native.Nat.{ℕ, _<_}
 use native.Mathlib.Omega.{arith}
 use Rattle.positions.specs.Member.{Member}
 use Rattle.positions.specs.With.{With}
@@ -13,11 +13,11 @@ use Rattle.positions.specs.AfterClass.{InAfterClass, AfterClass}
 use Rattle.positions.proofs.Members.{same-members}
 
 -- two words whose members are described by the same P
-described : (P : ℕ → Type 0) (r s : ℕ) → r < 2 ^ 64 → s < 2 ^ 64 → ((j : ℕ) → Member r j ↔ P j) → ((j : ℕ) → Member s j ↔ P j) → r ≡ s
-described P r s hr hs p q = same-members r s hr hs (λ j. (λ m. q j .1 (p j .0 m), λ m. p j .1 (q j .0 m)))
+pub described : (P : ℕ → Type 0) (r s : ℕ) → ((j : ℕ) → Member r j ↔ P j) → ((j : ℕ) → Member s j ↔ P j) → r ≡ s
+described P r s p q = same-members r s (λ j. (λ m. q j .1 (p j .0 m), λ m. p j .1 (q j .0 m)))
 
-pub with-unique : (set k r s : ℕ) → r < 2 ^ 64 → s < 2 ^ 64 → With set k r → With set k s → r ≡ s
-with-unique set k r s hr hs p q = described _ r s hr hs p q
+pub with-unique : (set k r s : ℕ) → With set k r → With set k s → r ≡ s
+with-unique set k r s p q = described _ r s p q
 
 pub first-unique : (set r s : ℕ) → First set r → First set s → r ≡ s
 first-unique set r s p q =
@@ -31,8 +31,8 @@ last-unique set r s p q =
     let b : s < r → ⊥ = λ l. q .noneAbove r l (p .found) in
     omega arith
 
-pub union-unique : (set : ℕ) (rows : List ℕ) (base from width r s : ℕ) → r < 2 ^ 64 → s < 2 ^ 64 → Union set rows base from width r → Union set rows base from width s → r ≡ s
-union-unique set rows base from width r s hr hs p q = described (InUnion set rows base from width) r s hr hs p q
+pub union-unique : (set : ℕ) (rows : List ℕ) (base from width r s : ℕ) → Union set rows base from width r → Union set rows base from width s → r ≡ s
+union-unique set rows base from width r s p q = described (InUnion set rows base from width) r s p q
 
-pub after-class-unique : (set places r s : ℕ) → r < 2 ^ 64 → s < 2 ^ 64 → AfterClass set places r → AfterClass set places s → r ≡ s
-after-class-unique set places r s hr hs p q = described (InAfterClass set places) r s hr hs p q
+pub after-class-unique : (set places r s : ℕ) → AfterClass set places r → AfterClass set places s → r ≡ s
+after-class-unique set places r s p q = described (InAfterClass set places) r s p q

@@ -69,10 +69,10 @@ shl-left : tie.Need-shl-left Inv-loop μ-loop
 shl-left c = small c
 
 sub-left : tie.Need-sub-left Inv-loop μ-loop
-sub-left c = rw (power c) (one-le _ _ (small c) (here c))
+sub-left c = rw (power c) (one-le _ _ (here c))
 
 loop-less : tie.Need-loop-less Inv-loop μ-loop
-loop-less c = omega (arith, power c, one-le _ _ (small c) (here c), pow-pos (taken c))
+loop-less c = omega (arith, power c, one-le _ _ (here c), pow-pos (taken c))
 
 loop-again : tie.Need-loop-again Inv-loop μ-loop
 loop-again c =
@@ -81,8 +81,8 @@ loop-again c =
     rw (power c) (
       omega (arith, l .inv .0),
       rw length-set (l .inv .1),
-      λ j m. l .inv .2 j (less-member _ _ (small c) (here c) j .0 m .0),
-      λ final d. l .inv .3 final (deepened-less (a .base) (a .depth) _ (small c) _ (here c) (l .depths) final (omega (arith, room c)) d),
+      λ j m. l .inv .2 j (less-member _ _ (here c) j .0 m .0),
+      λ final d. l .inv .3 final (deepened-less (a .base) (a .depth) _ _ (here c) (l .depths) final (omega (arith, room c)) d),
     )
 
 returns : tie.Need-returns Inv-loop μ-loop

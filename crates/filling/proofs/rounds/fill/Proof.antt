@@ -1,4 +1,4 @@
-use Prim.Native.Nat.{_-_, _^_, _≤_, _<_}
+use Prim.Native.Nat.{_-_, _≤_, _<_}
 use mathlib.Core.Path.{sym, _∙_, ap}
 use native.Mathlib.Nat.{le-trans, le-of-eq}
 use native.Mathlib.Omega.{arith}
@@ -16,7 +16,7 @@ use Rattle.filling.proofs.rounds.fill.Tie as tie
 
 abbrev Inv-loop : tie.InvT-loop
 Inv-loop g s line words₀ depths₀ categories width rows starts masks places next₀ changed₀ depth₀ words depths next changed depth =
-    (changed < 2 ^ 64) × (depth ≤ 2049) × Done (grammarOf g s) line depth changed words₀ depths₀ words next depths
+    (depth ≤ 2049) × Done (grammarOf g s) line depth changed words₀ depths₀ words next depths
 
 abbrev μ-loop : tie.MeasureT-loop
 μ-loop g s line words₀ depths₀ categories width rows starts masks places next₀ changed₀ depth₀ words depths next changed depth =
@@ -30,13 +30,6 @@ given : (c : tie.After-insert Inv-loop μ-loop) → Given (grammarOf (now (origi
 given c =
     let p = origin c .pre in
     record { limits = sections-within _ _ (p .0); proper = sections-proper _ _ (p .0); short = p .1 .short }
-
--- the memory that the loop begins with has the room of the memory at entry
-room : (c : tie.After-insert Inv-loop μ-loop) → chartSize (origin c .args .s .categories) (length (now (origin c .args .line))) ≤ length (c .before .before .before .before .before .before .before .before .before .before .before .clear-words .last .0)
-room c = let h = origin c .pre .2 in le-trans h (le-of-eq (sym (ap length (c .before .before .before .before .before .before .before .before .before .before .before .clear-words .ensures) ∙ cleared-long _ _ h)))
-
-deep-room : (c : tie.After-insert Inv-loop μ-loop) → depthsSize (origin c .args .s .categories) (length (now (origin c .args .line))) ≤ length (c .before .before .before .before .before .before .before .clear-depths .last .0)
-deep-room c = let h = origin c .pre .3 in le-trans h (le-of-eq (sym (ap length (c .before .before .before .before .before .before .before .clear-depths .ensures) ∙ cleared-long _ _ h)))
 
 add-width : tie.Need-add-width Inv-loop μ-loop
 add-width c = search needs
@@ -70,7 +63,6 @@ insert-requires c κs = search needs
 loop-holds : tie.Need-loop-holds Inv-loop μ-loop
 loop-holds c = (
   omega arith,
-  omega arith,
   start-done _ _ _ _ _ _ _ _ (category-count _ _ (origin c .pre .0)) (c .insert .ensures) (c .before .before .before .before .before .before .before .before .before .before .before .clear-words .ensures) (c .before .before .before .before .before .before .before .clear-depths .ensures),
 )
 
@@ -79,7 +71,7 @@ some : (c : tie.In-loop Inv-loop μ-loop) → 0 < c .before .loop .changed
 some c = omega (arith, c .loop-test .taken)
 
 few : (c : tie.In-loop Inv-loop μ-loop) → c .before .loop .depth ≤ 2048
-few c = rounds-few (given (c .before .before)) (some c) (c .before .loop .inv .0) (c .before .loop .inv .2 .changes)
+few c = rounds-few (given (c .before .before)) (some c) (c .before .loop .inv .1 .changes)
 
 add-depth : tie.Need-add-depth Inv-loop μ-loop
 add-depth c = omega (arith, few c)
@@ -87,12 +79,19 @@ add-depth c = omega (arith, few c)
 apply-rules-requires : tie.Need-apply-rules-requires Inv-loop μ-loop
 apply-rules-requires c κs = search needs
 
+-- the memory that the loop begins with has the room of the memory at entry
+room : (c : tie.After-insert Inv-loop μ-loop) → chartSize (origin c .args .s .categories) (length (now (origin c .args .line))) ≤ length (c .before .before .before .before .before .before .before .before .before .before .before .clear-words .last .0)
+room c = let h = origin c .pre .2 in le-trans h (le-of-eq (sym (ap length (c .before .before .before .before .before .before .before .before .before .before .before .clear-words .ensures) ∙ cleared-long _ _ h)))
+
+deep-room : (c : tie.After-insert Inv-loop μ-loop) → depthsSize (origin c .args .s .categories) (length (now (origin c .args .line))) ≤ length (c .before .before .before .before .before .before .before .clear-depths .last .0)
+deep-room c = let h = origin c .pre .3 in le-trans h (le-of-eq (sym (ap length (c .before .before .before .before .before .before .before .clear-depths .ensures) ∙ cleared-long _ _ h)))
+
 commit-requires : tie.Need-commit-requires Inv-loop μ-loop
 commit-requires c κs =
     let i = c .before .before .before .before .before .before .before .before .before .before .before in
     let l = c .before .before .before .before .before .before .before .before .before .before .loop in
     let p = origin i .pre in (
-      round-ready (given i) (l .depth) (l .changed) _ _ (l .words) (l .next) (l .depths) _ _ _ (l .inv .2) (i .before .before .rule-masks .ensures) (i .before .class-places .ensures)
+      round-ready (given i) (l .depth) (l .changed) _ _ (l .words) (l .next) (l .depths) _ _ _ (l .inv .1) (i .before .before .rule-masks .ensures) (i .before .class-places .ensures)
           (c .before .before .before .apply-rules .ensures) _ (category-count _ _ (p .0)) (room i) (deep-room i),
       whole _ _ (p .0) .categories-high,
       omega (arith, p .1 .short),
@@ -106,17 +105,16 @@ loop-again c =
     let i = c .before .before .before .before .before .before .before .before .before .before .before .before .before .before .before .before in
     let l = c .before .before .before .before .before .before .before .before .before .before .before .before .before .before .before .loop in
     let p = origin i .pre in (
-      omega arith,
       omega (arith, few (c .before .before .before .before .before .before .before .before .before .before .before .before .before .before)),
-      round-done (given i) (l .depth) (l .changed) _ _ (l .words) (l .next) (l .depths) _ _ _ (l .inv .2) (i .before .before .rule-masks .ensures) (i .before .class-places .ensures)
-          (c .before .before .before .before .before .before .before .before .apply-rules .ensures) _ _ _ _ (category-count _ _ (p .0)) (some (c .before .before .before .before .before .before .before .before .before .before .before .before .before .before)) (l .inv .0) (c .before .before .before .before .commit .ensures),
+      round-done (given i) (l .depth) (l .changed) _ _ (l .words) (l .next) (l .depths) _ _ _ (l .inv .1) (i .before .before .rule-masks .ensures) (i .before .class-places .ensures)
+          (c .before .before .before .before .before .before .before .before .apply-rules .ensures) _ _ _ _ (category-count _ _ (p .0)) (some (c .before .before .before .before .before .before .before .before .before .before .before .before .before .before)) (c .before .before .before .before .commit .ensures),
     )
 
 cast-result : tie.Need-cast-result Inv-loop μ-loop
 cast-result c = omega arith
 
 sub-result : tie.Need-sub-result Inv-loop μ-loop
-sub-result c = some-round (c .loop-test .left) (c .before .loop .inv .2 .changes)
+sub-result c = some-round (c .loop-test .left) (c .before .loop .inv .1 .changes)
 
 same-length : tie.Need-same-length Inv-loop μ-loop
 same-length c = search needs
@@ -130,7 +128,7 @@ returns c =
     let l = c .before .loop in
     let p = origin i .pre in
     filled-cleared _ _ (i .insert .result) _ _ _ _ _ (category-count _ _ (p .0)) (i .insert .ensures) (i .before .before .before .before .before .before .before .before .before .before .before .clear-words .ensures) (i .before .before .before .before .before .before .before .clear-depths .ensures) _ _ (p .2) (p .3)
-    (rounds-filled (given i) (l .depth) (l .changed) _ _ (l .words) (l .next) (l .depths) (c .loop-test .left) (l .inv .2))
+    (rounds-filled (given i) (l .depth) (l .changed) _ _ (l .words) (l .next) (l .depths) (c .loop-test .left) (l .inv .1))
 
 pub fill-spec : {M : Type 1} → statement M
 fill-spec =

@@ -52,7 +52,7 @@ loop-less c = search needs
 loop-again : tie.Need-loop-again Inv-loop μ-loop
 loop-again c =
     let l = c .before .before .before .loop in
-    (omega arith, places-more _ (l .m) (c .insert .result) (l .places) (token (c .before .before)) (omega arith) (c .insert .ensures) (l .inv .1))
+    (omega arith, places-more _ (l .m) (c .insert .result) (l .places) (token (c .before .before)) (c .insert .ensures) (l .inv .1))
 
 returns : tie.Need-returns Inv-loop μ-loop
 returns c =

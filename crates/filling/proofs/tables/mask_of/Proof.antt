@@ -43,7 +43,7 @@ loop-again : tie.Need-loop-again Inv-loop μ-loop
 loop-again c =
     let l = c .before .before .before .loop in (
       omega arith,
-      ⊎-elim (λ w. rw (w .2) (mask-more _ (l .d) (l .mask) _ (w .0 .taken) (omega arith) (w .1 .ensures) (l .inv .1)))
+      ⊎-elim (λ w. rw (w .2) (mask-more _ (l .d) (l .mask) _ (w .0 .taken) (w .1 .ensures) (l .inv .1)))
           (λ w. rw (w .1) (mask-skip _ (l .d) (l .mask) (w .0 .left) (l .inv .1))) (c .if1 .came),
     )
 

@@ -1,0 +1,9 @@
+-- Where a contract of this crate is a relation, two outcomes that it allows are equal.
+use Prim.Native.Nat.{ℕ}
+use mathlib.Core.Path.{_≡_, sym, _∙_}
+use mathlib.Core.List.{List}
+use Rattle.report.specs.Decimal.{Written}
+
+-- bytes are written in one way
+pub written-unique : (row : List ℕ) (at : ℕ) (bytes : List ℕ) {a b : List ℕ} {m n : ℕ} → Written row at bytes a m → Written row at bytes b n → (a ≡ b) × (m ≡ n)
+written-unique row at bytes x y = (x .holds ∙ sym (y .holds), x .after ∙ sym (y .after))

@@ -1,0 +1,158 @@
+-- `report::job::read_job` meets its contract: at each `return` the tests that led there say which case of `jobOf` holds.
+use borrow.Author.Needs.{needs}
+use Prim.Native.Nat.{_+_}
+use native.Mathlib.Omega.{arith}
+use denote.Ref.{now}
+use borrow.Author.Tests.{lt-ltb, le-ltb}
+use Rattle.report.specs.Job.{grammarCount, lineCount, jobOf}
+use Rattle.report.proofs.job.read_job.Statement.{statement}
+use Rattle.report.proofs.job.read_job.Tie as tie
+
+returns : tie.Need-returns
+unfolding jobOf
+returns c = simp (lt-ltb _ _ (c .if1 .taken))
+
+returns-2 : tie.Need-returns-2
+unfolding jobOf
+returns-2 c = simp (le-ltb _ _ (c .before .if1 .left), lt-ltb _ _ (c .if2 .taken))
+
+shared-slice-read-grammar : tie.Need-shared-slice-read-grammar
+shared-slice-read-grammar c = search needs
+
+cast-grammar : tie.Need-cast-grammar
+cast-grammar c = omega (arith, c .shared-slice-known .given 0)
+
+shared-slice-read-grammar-2 : tie.Need-shared-slice-read-grammar-2
+shared-slice-read-grammar-2 c = search needs
+
+cast-grammar-2 : tie.Need-cast-grammar-2
+cast-grammar-2 c = omega (arith, c .shared-slice-known2 .given 1)
+
+mul-grammar : tie.Need-mul-grammar
+mul-grammar c = omega (arith, c .shared-slice-known2 .given 0, c .shared-slice-known2 .given 1)
+
+add-grammar : tie.Need-add-grammar
+add-grammar c = omega (arith, c .shared-slice-known2 .given 0, c .shared-slice-known2 .given 1)
+
+add-if3 : tie.Need-add-if3
+add-if3 c = omega (arith, c .shared-slice-known2 .given 0, c .shared-slice-known2 .given 1)
+
+returns-3 : tie.Need-returns-3
+unfolding jobOf
+returns-3 c = let e = c .before .before .before in simp (le-ltb _ _ (e .before .if1 .left), le-ltb _ _ (e .if2 .left), lt-ltb _ _ (c .if3 .taken))
+
+add-line : tie.Need-add-line
+add-line c = search needs
+
+shared-slice-read-line : tie.Need-shared-slice-read-line
+shared-slice-read-line c = search needs
+
+cast-line : tie.Need-cast-line
+cast-line c = let input = now (c .before .before .before .before .before .before .args .input) in omega (arith, c .shared-slice-known3 .given (2 + grammarCount input))
+
+add-if4 : tie.Need-add-if4
+add-if4 c = search needs
+
+add-if4-2 : tie.Need-add-if4-2
+add-if4-2 c = let input = now (c .before .before .before .before .before .before .args .input) in omega (arith, c .shared-slice-known3 .given (2 + grammarCount input))
+
+returns-4 : tie.Need-returns-4
+unfolding jobOf
+returns-4 c =
+    let e = c .before .before in
+    let d = e .before .before .before in
+    simp (le-ltb _ _ (d .before .if1 .left), le-ltb _ _ (d .if2 .left), le-ltb _ _ (e .if3 .left), lt-ltb _ _ (c .if4 .taken))
+
+add-questions : tie.Need-add-questions
+add-questions c = search needs
+
+add-questions-2 : tie.Need-add-questions-2
+add-questions-2 c = search needs
+
+shared-slice-read-questions : tie.Need-shared-slice-read-questions
+shared-slice-read-questions c = search needs
+
+cast-questions : tie.Need-cast-questions
+cast-questions c = let input = now (c .before .before .before .before .before .before .before .before .args .input) in let grammar = grammarCount input in omega (arith, c .shared-slice-known4 .given (3 + grammar + lineCount input grammar))
+
+add-end : tie.Need-add-end
+add-end c = search needs
+
+add-end-2 : tie.Need-add-end-2
+add-end-2 c = search needs
+
+mul-end : tie.Need-mul-end
+mul-end c = let input = now (c .before .before .before .before .before .before .before .before .args .input) in let grammar = grammarCount input in omega (arith, c .shared-slice-known4 .given (3 + grammar + lineCount input grammar))
+
+add-end-3 : tie.Need-add-end-3
+add-end-3 c = let input = now (c .before .before .before .before .before .before .before .before .args .input) in let grammar = grammarCount input in omega (arith, c .shared-slice-known4 .given (3 + grammar + lineCount input grammar))
+
+returns-5 : tie.Need-returns-5
+unfolding jobOf
+returns-5 c =
+    let f = c .before .before in
+    let e = f .before .before in
+    let d = e .before .before .before in
+    simp (le-ltb _ _ (d .before .if1 .left), le-ltb _ _ (d .if2 .left), le-ltb _ _ (e .if3 .left), le-ltb _ _ (f .if4 .left), lt-ltb _ _ (c .if5 .taken))
+
+returns-6 : tie.Need-returns-6
+unfolding jobOf
+returns-6 c =
+    let f = c .before .before .before in
+    let e = f .before .before in
+    let d = e .before .before .before in
+    simp (
+      le-ltb _ _ (d .before .if1 .left),
+      le-ltb _ _ (d .if2 .left),
+      le-ltb _ _ (e .if3 .left),
+      le-ltb _ _ (f .if4 .left),
+      le-ltb _ _ (c .before .if5 .left),
+      lt-ltb _ _ (c .if6 .taken),
+    )
+
+returns-7 : tie.Need-returns-7
+unfolding jobOf
+returns-7 c =
+    let f = c .before .before .before in
+    let e = f .before .before in
+    let d = e .before .before .before in
+    simp (
+      le-ltb _ _ (d .before .if1 .left),
+      le-ltb _ _ (d .if2 .left),
+      le-ltb _ _ (e .if3 .left),
+      le-ltb _ _ (f .if4 .left),
+      le-ltb _ _ (c .before .if5 .left),
+      le-ltb _ _ (c .if6 .left),
+    )
+
+pub read-job-spec : {M : Type 1} → statement M
+read-job-spec =
+    tie.close
+    (tie.spec
+    returns
+    returns-2
+    shared-slice-read-grammar
+    cast-grammar
+    shared-slice-read-grammar-2
+    cast-grammar-2
+    mul-grammar
+    add-grammar
+    add-if3
+    returns-3
+    add-line
+    shared-slice-read-line
+    cast-line
+    add-if4
+    add-if4-2
+    returns-4
+    add-questions
+    add-questions-2
+    shared-slice-read-questions
+    cast-questions
+    add-end
+    add-end-2
+    mul-end
+    add-end-3
+    returns-5
+    returns-6
+    returns-7)

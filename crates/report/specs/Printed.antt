@@ -1,0 +1,113 @@
+-- What the program prints, for every input.
+use Prim.Native.Nat.{ℕ, _*_}
+use mathlib.Core.Bool.{not}
+use mathlib.Core.List.{List, [], _∷_, _++_, map, flatten}
+use lib.ListN.{length, replicate}
+use lib.Dec.{ltb}
+use Rattle.refusals.specs.declared.Refusal.{Refusal}
+use Rattle.refusals.specs.declared.Refusal.the-variants.{TreeOfNoFact, TreeTooSmall}
+use Rattle.refusals.specs.declared.Check.{Check}
+use Rattle.refusals.specs.declared.Check.the-variants as check
+use Rattle.refusals.specs.Row.{rowOf}
+use Rattle.refusals.specs.Order.{Checks, reported}
+use Rattle.derivation.specs.Grammar.{Grammar}
+use Rattle.derivation.specs.Table.{isFound, depthOf}
+use Rattle.derivation.specs.RoundsOf.{roundsOf}
+use Rattle.derivation.specs.FactCount.{factCount}
+use Rattle.derivation.specs.FactList.{Span, spanNumbers, factList}
+use Rattle.derivation.specs.Marks.{marks}
+use Rattle.derivation.specs.Node.{Node}
+use Rattle.derivation.specs.Shown.{shown}
+use Rattle.checks.specs.Question.{refuseIf, spanCheck}
+use Rattle.grammar.specs.Given.{sectionsGiven, grammarGiven}
+use Rattle.chart.specs.Checks.{checksOf, chartChecks}
+use Rattle.report.specs.declared.job.JobReading.{JobReading}
+use Rattle.report.specs.declared.job.JobReading.the-variants.{Read, Refused}
+use Rattle.report.specs.Job.{jobOf, grammarPart, linePart, questionsPart}
+use Rattle.report.specs.Decimal.{digit, decimal}
+use Rattle.report.specs.Lines.{text, lineOf, numbered}
+
+-- the program lends 512 words, 16,384 depths and 4,096 tree bytes
+unfoldable pub lentWords : List ℕ
+lentWords = replicate 512 0
+
+unfoldable pub lentDepths : List ℕ
+lentDepths = replicate 16384 0
+
+abbrev pub treeBytes : ℕ
+treeBytes = 4096
+
+-- refused number place
+unfoldable pub refusedLine : Refusal → List ℕ
+refusedLine refusal = numbered "refused" (rowOf refusal .number ∷ rowOf refusal .place ∷ [])
+
+-- the refusal as the only line, or else these lines
+abbrev pub unlessRefused : Check → List ℕ → List ℕ
+unlessRefused (check.Refused refusal) lines = refusedLine refusal
+unlessRefused check.Passed lines = lines
+
+module _ (G : Grammar) (line : List ℕ) where
+  -- rounds R facts F
+  unfoldable pub roundsLine : List ℕ
+  roundsLine = lineOf "rounds" (decimal (roundsOf G line) ∷ text "facts" ∷ decimal (factCount G line) ∷ [])
+
+  -- fact A i j depth
+  unfoldable pub factLine : Span → List ℕ
+  factLine s = numbered "fact" (s .category ∷ s .start ∷ s .end ∷ depthOf G line (s .category) (s .start) (s .end) ∷ [])
+
+  -- a line for each fact, ascending by A, i, j
+  unfoldable pub factLines : List ℕ
+  factLines = flatten (map factLine (factList G line))
+
+-- the marks' digits are one field; on an empty line there is none
+abbrev pub marksFields : List ℕ → List (List ℕ)
+marksFields [] = []
+marksFields (mark ∷ others) = map digit (mark ∷ others) ∷ []
+
+unfoldable pub marksLine : Grammar → List ℕ → List ℕ
+marksLine G line = lineOf "marks" (marksFields (marks G line))
+
+-- node kind number start end
+unfoldable pub nodeLine : Node → List ℕ
+nodeLine x = numbered "node" (x .kind ∷ x .number ∷ x .start ∷ x .end ∷ [])
+
+module _ (g line : List ℕ) where
+  -- the nodes shown for a question's fact
+  abbrev pub nodes : Span → List Node
+  nodes q = shown (grammarGiven g) line (q .category) (q .start) (q .end)
+
+  -- a question's own checks: 8, then 10 where it asks of no fact, then 11 where four bytes a node do not fit the tree bytes
+  abbrev pub questionCheck : Span → Check
+  questionCheck q = spanCheck (sectionsGiven g .categories) (length line) (q .category) (q .start) (q .end)
+
+  abbrev pub factCheck : Span → Check
+  factCheck q = refuseIf (not (isFound (depthOf (grammarGiven g) line (q .category) (q .start) (q .end)))) TreeOfNoFact
+
+  abbrev pub roomCheck : Span → Check
+  roomCheck q = refuseIf (ltb treeBytes (4 * length (nodes q))) TreeTooSmall
+
+  abbrev pub treeChecks : Span → Checks
+  treeChecks q = checksOf g line lentWords lentDepths (questionCheck q) (factCheck q) (roomCheck q)
+
+  -- tree A i j, and then the nodes or the refusal
+  unfoldable pub treeLines : Span → List ℕ
+  treeLines q = numbered "tree" (spanNumbers q) ++ unlessRefused (reported (treeChecks q)) (flatten (map nodeLine (nodes q)))
+
+  -- rounds and facts, each fact, the marks, each question
+  unfoldable pub answerLines : List Span → List ℕ
+  answerLines questions =
+      roundsLine (grammarGiven g) line ++ (factLines (grammarGiven g) line
+      ++ (marksLine (grammarGiven g) line
+      ++ flatten (map treeLines questions)))
+
+  -- the chart's refusal as the only line, or else the answers
+  unfoldable pub chartPrinted : List Span → List ℕ
+  chartPrinted questions = unlessRefused (reported (chartChecks g line lentWords lentDepths)) (answerLines questions)
+
+-- the job's refusal as the only line, or else what its chart leads to
+abbrev pub jobPrinted : List ℕ → JobReading → List ℕ
+jobPrinted input (Refused refusal) = refusedLine refusal
+jobPrinted input (Read job) = chartPrinted (grammarPart input job) (linePart input job) (questionsPart input job)
+
+unfoldable pub printed : List ℕ → List ℕ
+printed input = jobPrinted input (jobOf input)
