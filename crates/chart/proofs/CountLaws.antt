@@ -22,13 +22,13 @@ use Rattle.checks.specs.Memory.{chartSize}
 use Rattle.filling.specs.Filled.{WorkFilled}
 
 -- a count is a total of digits
-count-total : (k x : ℕ) → countBelow k x ≡ total (digit x) k
+pub count-total : (k x : ℕ) → countBelow k x ≡ total (digit x) k
 unfolding countBelow total
 count-total zero x = refl
 count-total (suc k) x = ap (λ (y : ℕ). y + digit x k) (count-total k x)
 
 -- a digit that tells the truth of a test
-digit-test : (x j : ℕ) (b : Bool) → (Member x j → b ≡ true) → (b ≡ true → Member x j) → digit x j ≡ cond b 1 0
+pub digit-test : (x j : ℕ) (b : Bool) → (Member x j → b ≡ true) → (b ≡ true → Member x j) → digit x j ≡ cond b 1 0
 digit-test x j true to from = from refl
 digit-test x j false to from = no-digit x j (λ m. false≢true (to m))
 

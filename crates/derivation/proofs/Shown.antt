@@ -114,7 +114,7 @@ module _ (g : Grammar) (w : List ℕ) (h : ℕ) where
       go (inr l) = before {m = m} {n = n} l
 
 module _ (g : Grammar) (w : List ℕ) (proper : Proper g) where
-  below-within : (h : ℕ) → below g w (depthOf g w) h ≡ within g w h
+  pub below-within : (h : ℕ) → below g w (depthOf g w) h ≡ within g w h
   unfolding below
   below-within h = fun-ext λ A. fun-ext λ i. fun-ext λ j. seen-depth g w h (depthOf-is g w proper A i j)
 

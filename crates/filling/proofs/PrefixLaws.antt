@@ -26,7 +26,7 @@ pub rows-few : (left width : ℕ) → left < 32 → width ≤ 64 → left * widt
 rows-few left width l h = omega (arith, mul-le-mul {n₂ = 32} {m₂ = 64} l h, suc-mul left width)
 
 -- the empty list of symbols ends where it starts
-stays : {g : Grammar} {w : List ℕ} {i j : ℕ} → Children g w [] i j → j ≡ i
+pub stays : {g : Grammar} {w : List ℕ} {i j : ℕ} → Children g w [] i j → j ≡ i
 stays (stop h) = refl
 
 -- r is the set of the ends of the first d symbols from i, for every chart that these words are

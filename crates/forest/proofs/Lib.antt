@@ -1,0 +1,14 @@
+pub mod EndsLaws
+pub mod CountLaws
+pub mod ListLaws
+pub mod SeekLaws
+pub mod CursorLaws
+pub mod RuleLaws
+pub mod SearchLaws
+pub mod NextLaws
+pub mod PlanLaws
+pub mod Again
+pub mod Shared
+pub mod WriteLaws
+pub mod OutcomeLaws
+pub mod Unique

@@ -1,0 +1,79 @@
+-- `forest::count::count_place` meets its contract. The loop's invariant: `records` is the total of the starts below this one.
+use Prim.Native.Nat.{suc, _+_, _-_, _≤_}
+use mathlib.Core.Path.{_≡_, sym, ap, _∙_}
+use native.Mathlib.Omega.{arith}
+use lib.ListN.{length}
+use denote.Ref.{now}
+use borrow.Author.Needs.{needs}
+use Rattle.derivation.specs.FactCount.{total}
+use Rattle.derivation.proofs.Totals.{total-none, total-next}
+use Rattle.grammar.specs.Value.{standing}
+use Rattle.grammar.specs.Given.{grammarGiven}
+use Rattle.forest.specs.Count.{startCount}
+use Rattle.forest.proofs.CountLaws.{place-le}
+use Rattle.forest.proofs.count.count_place.Statement.{statement}
+use Rattle.forest.proofs.count.count_place.Tie as tie
+
+abbrev Inv-loop : tie.InvT-loop
+Inv-loop g at d line words width records₀ start₀ records start = (start ≤ width) × (records ≡ total (startCount (grammarGiven g) line (standing g at .right) d) start)
+
+abbrev μ-loop : tie.MeasureT-loop
+μ-loop g at d line words width records₀ start₀ records start = width - start
+
+abbrev entry : tie.In-loop Inv-loop μ-loop → tie.Start Inv-loop μ-loop
+entry c = c .before .before .before .before .before
+
+add-width : tie.Need-add-width Inv-loop μ-loop
+add-width c = search needs
+
+loop-holds : tie.Need-loop-holds Inv-loop μ-loop
+loop-holds c = (search needs, sym (total-none _))
+
+count-start-requires : tie.Need-count-start-requires Inv-loop μ-loop
+count-start-requires c κs = search needs
+
+add-records : tie.Need-add-records Inv-loop μ-loop
+add-records c =
+    let i = c .before in
+    let e = entry i in
+    let a = e .args in
+    let l = i .before .loop in
+    let few = place-le (grammarGiven (now (a .g))) (now (a .line)) (e .pre .0 .isLine .short) (standing (now (a .g)) (a .at) .right) (a .d) in
+    let more = total-next (startCount (grammarGiven (now (a .g))) (now (a .line)) (standing (now (a .g)) (a .at) .right) (a .d)) (l .start) in
+    omega (arith, c .count-start .ensures, l .inv .1, more, few (l .start + 1) (omega (arith, i .loop-test .taken)))
+
+add-start : tie.Need-add-start Inv-loop μ-loop
+add-start c = search needs
+
+loop-less : tie.Need-loop-less Inv-loop μ-loop
+loop-less c = search needs
+
+loop-again : tie.Need-loop-again Inv-loop μ-loop
+loop-again c =
+    let i = c .before in
+    let a = entry i .args in
+    let l = i .before .loop in
+    let more = total-next (startCount (grammarGiven (now (a .g))) (now (a .line)) (standing (now (a .g)) (a .at) .right) (a .d)) (l .start) in
+    (search needs, omega (arith, l .inv .1, c .count-start .ensures, more))
+
+returns : tie.Need-returns Inv-loop μ-loop
+returns c =
+    let l = c .before .loop in
+    let e = c .before .before .before .before .before in
+    let same : l .start ≡ suc (length (now (e .args .line))) = omega (arith, l .inv .0, c .loop-test .left) in
+    l .inv .1 ∙ ap (total (startCount (grammarGiven (now (e .args .g))) (now (e .args .line)) (standing (now (e .args .g)) (e .args .at) .right) (e .args .d))) same
+
+pub count-place-spec : {M : Type 1} → statement M
+count-place-spec =
+    tie.close
+    (tie.spec
+    Inv-loop
+    μ-loop
+    add-width
+    loop-holds
+    count-start-requires
+    add-records
+    add-start
+    loop-less
+    loop-again
+    returns)

@@ -1,0 +1,70 @@
+-- `forest::ends::step_ends` meets its contract. The loop's invariant: the positions below m are done. The measure is what is left to the width.
+use Prim.Native.Nat.{_-_, _≤_}
+use mathlib.Core.Logic.{⊎-elim}
+use native.Mathlib.Omega.{arith}
+use denote.Ref.{now}
+use borrow.Author.Needs.{needs}
+use Rattle.positions.proofs.Members.{member-true, member-false}
+use Rattle.forest.proofs.EndsLaws.{StepBelow, step-none, step-skip, step-take, step-all}
+use Rattle.forest.proofs.ends.step_ends.Statement.{statement}
+use Rattle.forest.proofs.ends.step_ends.Tie as tie
+
+abbrev Inv-loop : tie.InvT-loop
+Inv-loop g at d line words set width all₀ m₀ all m = (m ≤ width) × StepBelow g line at d set m all
+
+abbrev μ-loop : tie.MeasureT-loop
+μ-loop g at d line words set width all₀ m₀ all m = width - m
+
+add-width : tie.Need-add-width Inv-loop μ-loop
+add-width c = search needs
+
+loop-holds : tie.Need-loop-holds Inv-loop μ-loop
+loop-holds c =
+    let a = c .before .before .before .args in
+    (search needs, step-none (now (a .g)) (now (a .line)) (a .at) (a .d) (a .set))
+
+member-requires : tie.Need-member-requires Inv-loop μ-loop
+member-requires c κs = search needs
+
+symbol-ends-requires : tie.Need-symbol-ends-requires Inv-loop μ-loop
+symbol-ends-requires c κs = search needs
+
+add-m : tie.Need-add-m Inv-loop μ-loop
+add-m c = search needs
+
+loop-less : tie.Need-loop-less Inv-loop μ-loop
+loop-less c = search needs
+
+loop-again : tie.Need-loop-again Inv-loop μ-loop
+loop-again c =
+    let l = c .before .before .before .loop in
+    let a = c .before .before .before .before .before .before .before .args in
+    let b = c .before .member in (
+      search needs,
+      ⊎-elim
+          (λ p. rw (p .2) (step-take (now (a .g)) (now (a .line)) (a .at) (a .d) (a .set) (l .m) (l .all) (p .1 .result) (member-true (a .set) (l .m) (b .ensures) (p .0 .taken)) (l .inv .1) (p .1 .ensures)))
+          (λ p. rw (p .1) (step-skip (now (a .g)) (now (a .line)) (a .at) (a .d) (a .set) (l .m) (l .all) (member-false (a .set) (l .m) (b .ensures) (p .0 .left)) (l .inv .1)))
+          (c .if1 .came),
+    )
+
+returns : tie.Need-returns Inv-loop μ-loop
+returns c =
+    let l = c .before .loop in
+    let e = c .before .before .before .before .before in
+    let a = e .args in
+    step-all (now (a .g)) (now (a .line)) (a .at) (a .d) (a .set) (l .m) (l .all) (λ m z. omega (arith, e .pre .3 m z, c .loop-test .left)) (l .inv .1)
+
+pub step-ends-spec : {M : Type 1} → statement M
+step-ends-spec =
+    tie.close
+    (tie.spec
+    Inv-loop
+    μ-loop
+    add-width
+    loop-holds
+    member-requires
+    symbol-ends-requires
+    add-m
+    loop-less
+    loop-again
+    returns)

@@ -1,0 +1,10 @@
+pub mod Charted
+pub mod Ends
+pub mod Count
+pub mod Rest
+pub mod Cursor
+pub mod Checks
+pub mod Told
+pub mod Planned
+pub mod Writing
+pub mod Outcome

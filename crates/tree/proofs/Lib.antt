@@ -1,0 +1,12 @@
+pub mod ByteLaws
+pub mod DivisionLaws
+pub mod NodeLaws
+pub mod SearchLaws
+pub mod RuleLaws
+pub mod TurnLaws
+pub mod CountLaws
+pub mod WriteLaws
+pub mod CheckLaws
+pub mod ShowLaws
+pub mod OutcomeLaws
+pub mod Unique

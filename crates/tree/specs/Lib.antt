@@ -1,0 +1,10 @@
+pub mod Bytes
+pub mod Kept
+pub mod Sets
+pub mod Searchable
+pub mod Counted
+pub mod Checks
+pub mod Checked
+pub mod Told
+pub mod Shows
+pub mod Outcome
