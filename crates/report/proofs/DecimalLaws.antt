@@ -7,7 +7,8 @@ use native.Mathlib.Omega.{arith}
 use lib.ListN.{length, length-append, drop, set, length-set, take-append-drop}
 use lib.Seq.{take-set-le, drop-cons, drop-set-lt, getD-set-same, append-snoc}
 use borrow.Author.Tests.{lt-ltb, le-ltb}
-use Rattle.report.specs.Decimal.{digit, digits, decimal, wrote}
+use Rattle.tree.specs.Bytes.{wrote}
+use Rattle.report.specs.Decimal.{digit, digits, decimal}
 
 -- room for more digits than there are changes nothing
 digits-enough : (most more n : ℕ) → n < most → n < more → digits most n ≡ digits more n

@@ -3,8 +3,9 @@ use Prim.Native.Nat.{ℕ, zero, suc, _+_, _-_, _*_, _/_, _%_, _≤_, _<_}
 use mathlib.Core.Path.{_≡_}
 use mathlib.Core.Bool.{cond}
 use mathlib.Core.List.{List, [], _∷_, _++_}
-use lib.ListN.{length, take, drop, getD}
+use lib.ListN.{length, getD}
 use lib.Dec.{ltb}
+use Rattle.tree.specs.Bytes.{wrote}
 
 -- the ASCII code of a digit
 abbrev pub digit : ℕ → ℕ
@@ -33,10 +34,6 @@ pub record IsDecimal (n : ℕ) (x : List ℕ) : Type 0 where
   pub each : (i : ℕ) → i < length x → (digit 0 ≤ getD x i 0) × (getD x i 0 ≤ digit 9)
   pub lead : 2 ≤ length x → digit 0 < getD x 0 0
   pub worth : value x ≡ n
-
--- the row with these bytes from a place on, and all else as it was
-unfoldable pub wrote : List ℕ → ℕ → List ℕ → List ℕ
-wrote row at written = take at row ++ (written ++ drop (at + length written) row)
 
 -- bytes are written from a place on, and the place after them is answered
 pub record Written (row : List ℕ) (at : ℕ) (bytes row′ : List ℕ) (next : ℕ) : Type 0 where

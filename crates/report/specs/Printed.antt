@@ -1,26 +1,23 @@
 -- What the program prints, for every input.
-use Prim.Native.Nat.{ℕ, _*_}
-use mathlib.Core.Bool.{not}
+use Prim.Native.Nat.{ℕ}
 use mathlib.Core.List.{List, [], _∷_, _++_, map, flatten}
-use lib.ListN.{length, replicate}
-use lib.Dec.{ltb}
+use lib.ListN.{replicate}
 use Rattle.refusals.specs.declared.Refusal.{Refusal}
-use Rattle.refusals.specs.declared.Refusal.the-variants.{TreeOfNoFact, TreeTooSmall}
 use Rattle.refusals.specs.declared.Check.{Check}
 use Rattle.refusals.specs.declared.Check.the-variants as check
 use Rattle.refusals.specs.Row.{rowOf}
-use Rattle.refusals.specs.Order.{Checks, reported}
+use Rattle.refusals.specs.Order.{reported}
 use Rattle.derivation.specs.Grammar.{Grammar}
-use Rattle.derivation.specs.Table.{isFound, depthOf}
+use Rattle.derivation.specs.Table.{depthOf}
 use Rattle.derivation.specs.RoundsOf.{roundsOf}
 use Rattle.derivation.specs.FactCount.{factCount}
 use Rattle.derivation.specs.FactList.{Span, spanNumbers, factList}
 use Rattle.derivation.specs.Marks.{marks}
 use Rattle.derivation.specs.Node.{Node}
 use Rattle.derivation.specs.Shown.{shown}
-use Rattle.checks.specs.Question.{refuseIf, spanCheck}
-use Rattle.grammar.specs.Given.{sectionsGiven, grammarGiven}
-use Rattle.chart.specs.Checks.{checksOf, chartChecks}
+use Rattle.grammar.specs.Given.{grammarGiven}
+use Rattle.chart.specs.Checks.{chartChecks}
+use Rattle.tree.specs.Checks.{treeChecks}
 use Rattle.report.specs.declared.job.JobReading.{JobReading}
 use Rattle.report.specs.declared.job.JobReading.the-variants.{Read, Refused}
 use Rattle.report.specs.Job.{jobOf, grammarPart, linePart, questionsPart}
@@ -34,8 +31,8 @@ lentWords = replicate 512 0
 unfoldable pub lentDepths : List ℕ
 lentDepths = replicate 16384 0
 
-abbrev pub treeBytes : ℕ
-treeBytes = 4096
+unfoldable pub lentTree : List ℕ
+lentTree = replicate 4096 0
 
 -- refused number place
 unfoldable pub refusedLine : Refusal → List ℕ
@@ -76,22 +73,9 @@ module _ (g line : List ℕ) where
   abbrev pub nodes : Span → List Node
   nodes q = shown (grammarGiven g) line (q .category) (q .start) (q .end)
 
-  -- a question's own checks: 8, then 10 where it asks of no fact, then 11 where four bytes a node do not fit the tree bytes
-  abbrev pub questionCheck : Span → Check
-  questionCheck q = spanCheck (sectionsGiven g .categories) (length line) (q .category) (q .start) (q .end)
-
-  abbrev pub factCheck : Span → Check
-  factCheck q = refuseIf (not (isFound (depthOf (grammarGiven g) line (q .category) (q .start) (q .end)))) TreeOfNoFact
-
-  abbrev pub roomCheck : Span → Check
-  roomCheck q = refuseIf (ltb treeBytes (4 * length (nodes q))) TreeTooSmall
-
-  abbrev pub treeChecks : Span → Checks
-  treeChecks q = checksOf g line lentWords lentDepths (questionCheck q) (factCheck q) (roomCheck q)
-
   -- tree A i j, and then the nodes or the refusal
   unfoldable pub treeLines : Span → List ℕ
-  treeLines q = numbered "tree" (spanNumbers q) ++ unlessRefused (reported (treeChecks q)) (flatten (map nodeLine (nodes q)))
+  treeLines q = numbered "tree" (spanNumbers q) ++ unlessRefused (reported (treeChecks g line (q .category) (q .start) (q .end) lentWords lentDepths lentTree)) (flatten (map nodeLine (nodes q)))
 
   -- rounds and facts, each fact, the marks, each question
   unfoldable pub answerLines : List Span → List ℕ

@@ -11,11 +11,11 @@ ghost use Rattle.tree.specs.Checked.{checkedOf};
 ghost use Rattle.tree.specs.Shows.{Shows};
 ghost use Rattle.tree.specs.Outcome.{TreeOutcome};
 
-pub mod counting; // counting.rt: how many nodes a tree has, up to a limit
-pub mod division; // division.rt: where a rule's symbols can be divided below a depth
+mod counting; // counting.rt: how many nodes a tree has, up to a limit
+mod division; // division.rt: where a rule's symbols can be divided below a depth
 pub mod node; // node.rt: a node, before it becomes bytes, and its bytes
-pub mod search; // search.rt: which rule a node uses
-pub mod writing; // writing.rt: a tree's nodes as bytes
+mod search; // search.rt: which rule a node uses
+mod writing; // writing.rt: a tree's nodes as bytes
 
 use chart::work::prepare;
 use checks::check_span;

@@ -5,7 +5,8 @@ use Prim.Native.Nat.{_+_, _/_, _<_}
 use mathlib.Core.Path.{_≡_, refl, _∙_}
 use native.Mathlib.Omega.{arith}
 use lib.ListN.{length, length-set}
-use Rattle.report.specs.Decimal.{decimal, wrote}
+use Rattle.tree.specs.Bytes.{wrote}
+use Rattle.report.specs.Decimal.{decimal}
 use Rattle.report.proofs.DecimalLaws.{decimal-length, decimal-some, wrote-more, wrote-first}
 use Rattle.report.proofs.decimal.write_decimal.Statement.{statement}
 use Rattle.report.proofs.decimal.write_decimal.Tie as tie
