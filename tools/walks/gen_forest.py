@@ -1,12 +1,11 @@
-import sys; sys.path.insert(0,'tools')
-from walk import Walk
+# Writes the proof of  fn forest(g, line, words, depths, rows)  of the crate forest; run at the repository's root, then `rt fmt`.
+from walk import Walk, spec
 CR='forest'
 cp=f"Rattle.{CR}.proofs"
 KS="(κ₀, (κ₁, (κ₂, (κ₃, (κ₄, tt)))))"; QS="(q₀, (q₁, (q₂, (q₃, (q₄, tt)))))"
-head=f'''-- `{CR}::forest` meets its contract: a walk of its MIR, by hand. The words are lent to `prepare` as `&mut` and come back (`Again.antt`), then lent to `fill` as `&` and come back as they were (`Shared.antt`); the depths are given to `prepare` for good, and the rows to `fill`. What is lent by `&` is copied.
+head=f'''-- `{CR}::forest` meets its contract: a walk of its MIR. The words are lent to `prepare` as `&mut` and come back (`Again.antt`), then lent to `fill` as `&` and come back as they were (`Shared.antt`); the depths are given to `prepare` for good, and the rows to `fill`. What is lent by `&` is copied.
 -- All that the proof knows of `prepare` and `fill` is that each meets its contract.
--- Assumes nothing. (Written by tools/gen_forest.py.)
-use mathlib.Core.Path.{{_≡_, refl, sym, _∙_, ap, subst}}
+use mathlib.Core.Path.{{_≡_, refl, sym, ap, subst}}
 use Prim.Native.Nat.{{ℕ, _<_, _≤_, _^_}}
 use mathlib.Core.List.{{[], _∷_, List, _++_}}
 use lib.ListN.{{length, take, drop as without}}
@@ -245,12 +244,9 @@ oo="O1"; w.join("u1","d","ud"); w.join("S1","ud","sud"); w.join("G1","sud","O1")
 w.head("use2 W (raw (Prepare 𝓤 H A mem run .pre (to-prepare ν δ))) (goes-prepare ν δ (r-room .0)) $ ",[kk,"O1"],["pre"]); w.nl()
 w.lam("calls-at ! fm (Prepare 𝓤 H A mem run) known-prepare (to-prepare ν δ) "+w.ops([w.ld("_1"),w.ld("_2"),w.ld("_8"),w.ld("_10"),w.ld("_11")])+" (λ w. "); w.nl()
 KP="(κ₀, (κ₁, (ν ∷ [], (κ₃, tt))))"
-w.head(f"use1 W (later (some (λ (r : Plan). ((‵ (flft κ₀ q₀) ⊛ ‵ (flft κ₁ q₁) ⊛ ‵ (flft (ν ∷ []) fullShare) ⊛ ‵ (flft κ₃ q₃) ⊛ ‵ ftrue) ⊛ ‵ (P.the-row .own r (w ∷ []))) ⊛ raw (ensured 𝓤 H A prepare.ended (prepare.clauses 𝓤 H A mem run) {KP} (for-prepare δ) tt r)))) (id⊢ 𝓤 _) $ await ! tt $ ",["pre"],["post"])
-w.lam("pick ! (λ r. "); w.split("post","KR","ens"); w.nl()
 PL="Planned (gx .now) (sx .now) us (dx .now) (length rs) (zs .1 .1 .0) (zs .1 .1 .1 .0) r"
-w.head(f"use1 W (some (λ (zs : Unit {{0}} × (Unit {{0}} × (List ℕ × (List ℕ × (Unit {{0}} × Unit {{0}}))))). ‵ (lasts prepare.ended {KP} (for-prepare δ) zs) ⊛ raw (fact 𝓤 ({PL})))) (id⊢ 𝓤 _) $ ",["ens"],["le"])
-w.lam("pick ! (λ zs. "); w.split("le","last","fact"); w.nl()
-w.move("fact"); w.lam(f"heard ! ({PL}) (λ planned. "); w.ctx.pop(0)
+w.returned("r","Plan","(‵ (flft κ₀ q₀) ⊛ ‵ (flft κ₁ q₁) ⊛ ‵ (flft (ν ∷ []) fullShare) ⊛ ‵ (flft κ₃ q₃) ⊛ ‵ ftrue) ⊛ ‵ (P.the-row .own r (w ∷ []))","prepare",KP,"(for-prepare δ)",
+    "zs","Unit {0} × (Unit {0} × (List ℕ × (List ℕ × (Unit {0} × Unit {0}))))",PL,"planned")
 w.fsplit("last","lt1","l2"); w.drop("lt1"); w.fsplit("l2","lt2","l3"); w.drop("lt2"); w.fsplit("l3","lu","l4"); w.fsplit("lu","fu","eu"); w.move("eu"); w.lam("feqL ! (λ lz. "); w.ctx.pop(0)
 w.fsplit("l4","ld","l5"); w.drop("l5"); w.fsplit("ld","fd","ed"); w.move("ed"); w.lam("feqL ! (λ ld. "); w.ctx.pop(0); w.nl()
 w.split("KR","KK","plan"); w.move("plan"); w.lam("peeks ! P.the-row (Is P.the-row) (shows 𝓤 H A P.the-row) r (w ∷ []) (λ ir. "); w.nl()
@@ -271,12 +267,9 @@ w.join("S2","sh","ssh"); w.join("G2","ssh","gssh"); w.join("r","gssh","O2")
 w.head("use2 W (raw (Fill 𝓤 H A mem run .pre (to-fill r μ ε (zs .1 .1 .0)))) (goes-fill r μ ε (zs .1 .1 .0) (good r w ir) (plan-fits (gx .now) (sx .now) us (dx .now) (length rs) (zs .1 .1 .0) (zs .1 .1 .1 .0) r planned, plan-writes (gx .now) (sx .now) us (dx .now) (length rs) (zs .1 .1 .0) (zs .1 .1 .1 .0) r planned)) $ ",[kk,"O2"],["pre"]); w.nl()
 w.lam("calls-at ! fm (Fill 𝓤 H A mem run) known-fill (to-fill r μ ε (zs .1 .1 .0)) "+w.ops([w.ld("_14"),w.ld("_1"),w.ld("_2"),w.ld("_16"),w.ldf("_6",1),w.ldf("_6",0)])+" (λ w′. "); w.nl()
 KF="(κ₄, (κ₀, (κ₁, (μ ∷ [], tt))))"
-w.head(f"use1 W (later (some (λ (r′ : Unit {{0}}). ((‵ (flft κ₄ q₄) ⊛ ‵ (flft κ₀ q₀) ⊛ ‵ (flft κ₁ q₁) ⊛ ‵ (flft (μ ∷ []) fullShare) ⊛ ‵ ftrue) ⊛ ‵ (unit .own r′ (w′ ∷ []))) ⊛ raw (ensured 𝓤 H A fill.ended (fill.clauses 𝓤 H A mem run) {KF} (for-fill r ε (zs .1 .1 .0)) tt r′)))) (id⊢ 𝓤 _) $ await ! tt $ ",["pre"],["post"])
-w.lam("pick ! (λ r′. "); w.split("post","KR","ens"); w.nl()
 FC="ts .0 ≡ take (r .n) (writtenFrom (gx .now) (sx .now) (r .first)) ++ without (r .n) rs"
-w.head(f"use1 W (some (λ (ts : List Branch × (Unit {{0}} × (Unit {{0}} × (Unit {{0}} × (Unit {{0}} × (Unit {{0}} × Unit {{0}})))))). ‵ (lasts fill.ended {KF} (for-fill r ε (zs .1 .1 .0)) ts) ⊛ raw (fact 𝓤 ({FC})))) (id⊢ 𝓤 _) $ ",["ens"],["le"])
-w.lam("pick ! (λ ts. "); w.split("le","last","fact"); w.nl()
-w.move("fact"); w.lam(f"heard ! ({FC}) (λ et. "); w.ctx.pop(0)
+w.returned("r′","Unit {0}","(‵ (flft κ₄ q₄) ⊛ ‵ (flft κ₀ q₀) ⊛ ‵ (flft κ₁ q₁) ⊛ ‵ (flft (μ ∷ []) fullShare) ⊛ ‵ ftrue) ⊛ ‵ (unit .own r′ (w′ ∷ []))","fill",KF,"(for-fill r ε (zs .1 .1 .0))",
+    "ts","List Branch × (Unit {0} × (Unit {0} × (Unit {0} × (Unit {0} × (Unit {0} × Unit {0})))))",FC,"et")
 w.fsplit("last","lr","l2"); w.drop("l2"); w.fsplit("lr","fr","er"); w.move("er"); w.lam("feqL ! (λ lt. "); w.ctx.pop(0); w.nl()
 w.split("KR","KK","un"); w.move("un"); w.lam("peeks ! unit (Is unit) (shows 𝓤 H A unit) tt (w′ ∷ []) (λ iu. ")
 w.say(f"land ! (from ! (stop !)) (init ! {w.p('_12')} refl (nothing-lawful 𝓤 H A W .typed tt _ iu .0)) $"); w.nl()
@@ -307,15 +300,7 @@ forest-meets 𝓤 H A W mem run 𝓣 known-prepare known-fill =
     walk-meets 𝓤 H A forest.ended stayed W (goes-none-slice 𝓤 H A W 5 (0 ∷ []) tt (plain (λ _. u8)) yes, (goes-none-slice 𝓤 H A W 5 (1 ∷ []) tt (plain (λ _. u8)) yes, (goes-slice 𝓤 H A W 5 2 tt (plain (λ _. u64)), (goes-gave-slice 𝓤 H A W 5 3 tt (plain (λ _. u16)), (goes-gave-slice 𝓤 H A W 5 4 tt (plain (λ _. R)), tt))))) (forest.clauses 𝓤 H A mem run)
     (WpFn 𝓤 H (𝓣 .C) (𝓣 .Λ) code.function) (WpFn-mono 𝓤 H (W .laws) 𝓣 code.function) (forest-walks 𝓤 H A W mem run (𝓣 .C) (𝓣 .Λ) (fmOf 𝓤 H (W .laws) 𝓣) known-prepare known-fill)
 
-pub forest-spec : {{M : Type 1}} → stated.statement M
-unfolding code.routine tablesOf
-forest-spec 𝓤 H 𝓜 𝓖 𝓡 =
-    entered 𝓤 H (tripleOf 𝓤 H (𝓖 .A) forest.signature (forest.spec 𝓤 H (𝓖 .A) (𝓜 .mem) (𝓡 .run)))
-    (tables 𝓤 H 𝓜 𝓡 code.env .C) (tables 𝓤 H 𝓜 𝓡 code.env .Λ) #{CR}·forest code.function (code.unfolded 𝓤 H 𝓜 𝓡)
-    (forest-meets 𝓤 H (𝓖 .A) (givenOf 𝓤 H 𝓜 𝓖) (𝓜 .mem) (𝓡 .run) (tablesOf 𝓤 H 𝓜 (tables 𝓤 H 𝓜 𝓡 code.env))
-    (cited 𝓤 H (Prepare 𝓤 H (𝓖 .A) (𝓜 .mem) (𝓡 .run)) 𝓜 𝓡 code.env #{CR}·prepare prepare-def.routine code.calls-{CR}·prepare (prepare-thm.met 𝓤 H 𝓜 𝓖 𝓡))
-    (cited 𝓤 H (Fill 𝓤 H (𝓖 .A) (𝓜 .mem) (𝓡 .run)) 𝓜 𝓡 code.env #{CR}·fill fill-def.routine code.calls-{CR}·fill (fill-thm.met 𝓤 H 𝓜 𝓖 𝓡)))
-'''
+'''+spec(CR,'forest',['prepare','fill'])
 # a callee with no requires: its pre ends in emp, which `asks-nothing` gives
 PREPARE=PREPARE.replace("@@PRE@@","suffices ! _ (∗emp 𝓤 _) $ ")
 text=head.replace("PREPARE\n",PREPARE+"\n").replace("      FILL\n","      "+FILL+"\n").replace("      EXITS\n","      "+EXITS+"\n").replace("        WALK\n","        "+WALK+"\n")+tail

@@ -1,6 +1,5 @@
--- `forest::fill` meets its contract: a walk of its MIR, by hand, with a loop. The borrow of the rows is opened once, before the loop, and closed once, after it; in between the row of records is the function's own.
+-- `forest::fill` meets its contract: a walk of its MIR, with a loop. The borrow of the rows is opened once, before the loop, and closed once, after it; in between the row of records is the function's own.
 -- Each turn takes element i out of the row, stores the record, puts it back, and calls `next`, of which all that is known is its contract. What is lent by `&` is one item of the context, and its tokens another, so the walk goes the same for any number of them.
--- Assumes nothing. (Written by tools/gen_fill.py.)
 use mathlib.Core.Path.{_≡_, refl, sym, _∙_, ap, subst}
 use Prim.Native.Nat.{ℕ, zero, suc, _<_, _≤_, _+_, _*_, _^_}
 use native.Mathlib.Nat.{add-zero}

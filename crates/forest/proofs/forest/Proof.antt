@@ -1,6 +1,5 @@
--- `forest::forest` meets its contract: a walk of its MIR, by hand. The words are lent to `prepare` as `&mut` and come back (`Again.antt`), then lent to `fill` as `&` and come back as they were (`Shared.antt`); the depths are given to `prepare` for good, and the rows to `fill`. What is lent by `&` is copied.
+-- `forest::forest` meets its contract: a walk of its MIR. The words are lent to `prepare` as `&mut` and come back (`Again.antt`), then lent to `fill` as `&` and come back as they were (`Shared.antt`); the depths are given to `prepare` for good, and the rows to `fill`. What is lent by `&` is copied.
 -- All that the proof knows of `prepare` and `fill` is that each meets its contract.
--- Assumes nothing. (Written by tools/gen_forest.py.)
 use mathlib.Core.Path.{_≡_, refl, sym, ap, subst}
 use Prim.Native.Nat.{ℕ, _<_, _≤_, _^_}
 use mathlib.Core.List.{[], _∷_, List, _++_}
