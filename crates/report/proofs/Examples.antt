@@ -20,8 +20,8 @@ use Rattle.checks.specs.Question.{startCheck, spanCheck}
 use Rattle.grammar.specs.Reading.{eachFrom, ruleFrom, rulesFrom, flagsSection, rulesSection, sectionsOf, readOf}
 use Rattle.grammar.specs.Value.{standing, rulesAt, grammarOf}
 use Rattle.report.specs.Job.{jobOf, questionsFrom}
-use Rattle.report.specs.Decimal.{digits, decimal}
-use Rattle.report.specs.Lines.{text, spaced, lineOf, numbered}
+use Rattle.lines.specs.Decimal.{digits, decimal}
+use Rattle.lines.specs.Lines.{text, spaced, lineOf, numbered, roundsAndFacts, marksOf}
 use Rattle.tree.specs.Bytes.{bytes}
 use Rattle.report.specs.Printed.{lentWords, lentDepths, lentTree, refusedLine, roundsLine, factLine, factLines, marksLine, nodeLine, treeLines, answerLines, chartPrinted, printed}
 
@@ -52,10 +52,10 @@ pub examples :
     × (printed (7 ∷ []) ≡ text "refused 13 1\n")
     × (printed (2 ∷ 0 ∷ 1 ∷ 0 ∷ 0 ∷ 0 ∷ []) ≡ text "refused 1 2\n")
     × (printed (2 ∷ 0 ∷ 1 ∷ 0 ∷ 0 ∷ 0 ∷ 9 ∷ []) ≡ text "refused 13 6\n")
-unfolding printed refusedLine jobOf questionsFrom chartPrinted answerLines treeLines nodeLine marksLine factLines factLine roundsLine lentWords lentDepths lentTree bytes numbered lineOf spaced text decimal digits readOf sectionsOf flagsSection rulesSection rulesFrom ruleFrom eachFrom grammarOf rulesAt standing lineCheck tokensFrom startCheck spanCheck roundsOf greatest factCount total facts factList gathered kept marks secret covered shown chosen chosenRow chosenEnd chosenRule below firstFrom depthOf depths table listed isFound seen grade round children child tokenIs some flatten
+unfolding roundsAndFacts marksOf printed refusedLine jobOf questionsFrom chartPrinted answerLines treeLines nodeLine marksLine factLines factLine roundsLine lentWords lentDepths lentTree bytes numbered lineOf spaced text decimal digits readOf sectionsOf flagsSection rulesSection rulesFrom ruleFrom eachFrom grammarOf rulesAt standing lineCheck tokensFrom startCheck spanCheck roundsOf greatest factCount total facts factList gathered kept marks secret covered shown chosen chosenRow chosenEnd chosenRule below firstFrom depthOf depths table listed isFound seen grade round children child tokenIs some flatten
 examples = (refl, refl, refl, refl, refl, refl, refl)
 
 -- more than 4,096 bytes, whatever they are
 pub long-printed : (input : List ℕ) → 4096 < length input → printed input ≡ text "refused 13 4096\n"
-unfolding printed jobOf refusedLine numbered lineOf spaced text decimal digits
+unfolding roundsAndFacts marksOf printed jobOf refusedLine numbered lineOf spaced text decimal digits
 long-printed input long = rw (lt-ltb 4096 (length input) long)

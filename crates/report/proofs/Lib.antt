@@ -1,6 +1,9 @@
 pub mod JobLaws
 pub mod JobEncoding
-pub mod DecimalLaws
-pub mod DecimalValue
-pub mod Unique
+pub mod CheckLaws
+pub mod GatherLaws
+pub mod FactLaws
+pub mod NodeLaws
+pub mod PieceLaws
+pub mod AnswerLaws
 pub mod Examples

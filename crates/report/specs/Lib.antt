@@ -1,5 +1,5 @@
 pub mod Job
 pub mod JobEncoding
-pub mod Decimal
-pub mod Lines
 pub mod Printed
+pub mod Checked
+pub mod Pieces

@@ -21,8 +21,7 @@ use Rattle.tree.specs.Checks.{treeChecks}
 use Rattle.report.specs.declared.job.JobReading.{JobReading}
 use Rattle.report.specs.declared.job.JobReading.the-variants.{Read, Refused}
 use Rattle.report.specs.Job.{jobOf, grammarPart, linePart, questionsPart}
-use Rattle.report.specs.Decimal.{digit, decimal}
-use Rattle.report.specs.Lines.{text, lineOf, numbered}
+use Rattle.lines.specs.Lines.{numbered, roundsAndFacts, marksOf}
 
 -- the program lends 512 words, 16,384 depths and 4,096 tree bytes
 unfoldable pub lentWords : List ℕ
@@ -46,7 +45,7 @@ unlessRefused check.Passed lines = lines
 module _ (G : Grammar) (line : List ℕ) where
   -- rounds R facts F
   unfoldable pub roundsLine : List ℕ
-  roundsLine = lineOf "rounds" (decimal (roundsOf G line) ∷ text "facts" ∷ decimal (factCount G line) ∷ [])
+  roundsLine = roundsAndFacts (roundsOf G line) (factCount G line)
 
   -- fact A i j depth
   unfoldable pub factLine : Span → List ℕ
@@ -56,13 +55,9 @@ module _ (G : Grammar) (line : List ℕ) where
   unfoldable pub factLines : List ℕ
   factLines = flatten (map factLine (factList G line))
 
--- the marks' digits are one field; on an empty line there is none
-abbrev pub marksFields : List ℕ → List (List ℕ)
-marksFields [] = []
-marksFields (mark ∷ others) = map digit (mark ∷ others) ∷ []
-
+-- marks and a digit for each token
 unfoldable pub marksLine : Grammar → List ℕ → List ℕ
-marksLine G line = lineOf "marks" (marksFields (marks G line))
+marksLine G line = marksOf (marks G line)
 
 -- node kind number start end
 unfoldable pub nodeLine : Node → List ℕ

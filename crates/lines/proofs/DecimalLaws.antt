@@ -1,14 +1,15 @@
 -- The digits of a number: one at a time from the last, and their value.
-use Prim.Native.Nat.{ℕ, zero, suc, _+_, _-_, _/_, _%_, _≤_, _<_}
+use Prim.Native.Nat.{ℕ, zero, suc, _+_, _*_, _/_, _%_, _≤_, _<_}
 use mathlib.Core.Path.{_≡_, sym, _∙_}
 use mathlib.Core.List.{List, [], _∷_, _++_}
 use native.Mathlib.Decide.{decLt}
 use native.Mathlib.Omega.{arith}
-use lib.ListN.{length, length-append, drop, set, length-set, take-append-drop}
+use lib.ListN.{length, length-append, drop, set, length-set}
 use lib.Seq.{take-set-le, drop-cons, drop-set-lt, getD-set-same, append-snoc}
 use borrow.Author.Tests.{lt-ltb, le-ltb}
 use Rattle.tree.specs.Bytes.{wrote}
-use Rattle.report.specs.Decimal.{digit, digits, decimal}
+use Rattle.tree.proofs.ByteLaws.{wrote-none}
+use Rattle.lines.specs.Decimal.{digit, digits, decimal}
 
 -- room for more digits than there are changes nothing
 digits-enough : (most more n : ℕ) → n < most → n < more → digits most n ≡ digits more n
@@ -42,11 +43,21 @@ decimal-some n = go (decLt n 10)
     go (yes l) = omega (arith, decimal-short n l)
     go (no l) = let h : 10 ≤ n = omega arith in omega (arith, decimal-length n h)
 
--- bytes are written one by one from the last
-wrote-none : (row : List ℕ) (at : ℕ) → wrote row at [] ≡ row
-unfolding wrote
-wrote-none row at = let z : at + 0 ≡ at = omega arith in rw z (take-append-drop at row)
+-- 10, 100, 1,000, ..
+abbrev pub tens : ℕ → ℕ
+tens zero = 10
+tens (suc k) = 10 * tens k
 
+-- a number below 10 has one digit, one below 100 two, and so on
+pub decimal-few : (k n : ℕ) → n < tens k → length (decimal n) ≤ suc k
+decimal-few zero n h = omega (arith, decimal-short n h)
+decimal-few (suc k) n h = go (decLt n 10) (decimal-few k (n / 10) (omega arith))
+  where
+    go : Dec (n < 10) → length (decimal (n / 10)) ≤ suc k → length (decimal n) ≤ suc (suc k)
+    go (yes l) ih = omega (arith, decimal-short n l)
+    go (no l) ih = let high : 10 ≤ n = omega arith in omega (arith, decimal-length n high)
+
+-- bytes are written one by one from the last
 wrote-last : (row x : List ℕ) (at k d : ℕ) → k ≡ at + length x → k < length row → wrote (set row k d) at x ≡ wrote row at (x ++ (d ∷ []))
 unfolding wrote
 wrote-last row x at k d e l =

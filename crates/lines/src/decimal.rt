@@ -2,7 +2,7 @@
 ghost use mathlib.Core.Path.{_≡_};
 ghost use Prim.Native.Nat.{_+_, _≤_};
 ghost use lib.ListN.{length};
-ghost use Rattle.report.specs.Decimal.{decimal, Written};
+ghost use Rattle.lines.specs.Decimal.{decimal, Written};
 
 // How many digits a number has.
 pub fn digit_count(n: usize) -> usize

@@ -1,13 +1,13 @@
--- `report::decimal::digit_count` meets its contract. The loop's invariant: the digits counted and those of the rest are one more than all.
+-- `lines::decimal::digit_count` meets its contract. The loop's invariant: the digits counted and those of the rest are one more than all.
 -- The measure is the rest.
 use Prim.Native.Nat.{_+_, _≤_}
 use mathlib.Core.Path.{_≡_}
 use native.Mathlib.Omega.{arith}
 use lib.ListN.{length}
-use Rattle.report.specs.Decimal.{decimal}
-use Rattle.report.proofs.DecimalLaws.{decimal-short, decimal-length}
-use Rattle.report.proofs.decimal.digit_count.Statement.{statement}
-use Rattle.report.proofs.decimal.digit_count.Tie as tie
+use Rattle.lines.specs.Decimal.{decimal}
+use Rattle.lines.proofs.DecimalLaws.{decimal-short, decimal-length}
+use Rattle.lines.proofs.decimal.digit_count.Statement.{statement}
+use Rattle.lines.proofs.decimal.digit_count.Tie as tie
 
 abbrev Inv-loop : tie.InvT-loop
 Inv-loop n count₀ rest₀ count rest = (count + length (decimal rest) ≡ length (decimal n) + 1) × (count + rest ≤ n + 1)

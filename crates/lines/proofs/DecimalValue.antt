@@ -7,8 +7,8 @@ use native.Mathlib.Decide.{decLt}
 use native.Mathlib.Omega.{arith}
 use lib.ListN.{length, length-append, getD, take, drop, drop-of-length-le, List·getD-append}
 use lib.Seq.{length-take-le, split-at, getD-take, getD-at}
-use Rattle.report.specs.Decimal.{digit, decimal, valueAfter, value, IsDecimal}
-use Rattle.report.proofs.DecimalLaws.{decimal-small, decimal-more}
+use Rattle.lines.specs.Decimal.{digit, decimal, valueAfter, value, IsDecimal}
+use Rattle.lines.proofs.DecimalLaws.{decimal-small, decimal-more}
 
 -- the value of digits and one more
 value-snoc : (before b : ℕ) (x : List ℕ) → valueAfter before (x ++ (b ∷ [])) ≡ 10 * valueAfter before x + (b - digit 0)

@@ -1,4 +1,4 @@
--- `report::decimal::write_decimal` meets its contract. The loop's invariant: once the rest's digits are written too, the row is as the contract says,
+-- `lines::decimal::write_decimal` meets its contract. The loop's invariant: once the rest's digits are written too, the row is as the contract says,
 -- and the last of them belongs at `place`. The measure is the rest.
 use borrow.Author.Needs.{needs}
 use Prim.Native.Nat.{_+_, _/_, _<_}
@@ -6,10 +6,10 @@ use mathlib.Core.Path.{_≡_, refl, _∙_}
 use native.Mathlib.Omega.{arith}
 use lib.ListN.{length, length-set}
 use Rattle.tree.specs.Bytes.{wrote}
-use Rattle.report.specs.Decimal.{decimal}
-use Rattle.report.proofs.DecimalLaws.{decimal-length, decimal-some, wrote-more, wrote-first}
-use Rattle.report.proofs.decimal.write_decimal.Statement.{statement}
-use Rattle.report.proofs.decimal.write_decimal.Tie as tie
+use Rattle.lines.specs.Decimal.{decimal}
+use Rattle.lines.proofs.DecimalLaws.{decimal-length, decimal-some, wrote-more, wrote-first}
+use Rattle.lines.proofs.decimal.write_decimal.Statement.{statement}
+use Rattle.lines.proofs.decimal.write_decimal.Tie as tie
 
 abbrev Inv-loop : tie.InvT-loop
 Inv-loop out₀ at n end place₀ rest₀ out place rest =

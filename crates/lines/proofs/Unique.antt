@@ -2,7 +2,7 @@
 use Prim.Native.Nat.{ℕ}
 use mathlib.Core.Path.{_≡_, sym, _∙_}
 use mathlib.Core.List.{List}
-use Rattle.report.specs.Decimal.{Written}
+use Rattle.lines.specs.Decimal.{Written}
 
 -- bytes are written in one way
 pub written-unique : (row : List ℕ) (at : ℕ) (bytes : List ℕ) {a b : List ℕ} {m n : ℕ} → Written row at bytes a m → Written row at bytes b n → (a ≡ b) × (m ≡ n)

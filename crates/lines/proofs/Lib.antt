@@ -1,0 +1,5 @@
+pub mod DecimalLaws
+pub mod DecimalValue
+pub mod WriteLaws
+pub mod LineLaws
+pub mod Unique

@@ -1,0 +1,107 @@
+-- `lines::listing::write_facts` meets its contract. The loop's invariant: what is printed of the first q numbers is written. The measure is how many are left.
+use borrow.Author.Needs.{needs}
+use native.Mathlib.Omega.{arith}
+use Prim.Native.Nat.{_-_, _/_, _≤_, _<_}
+use mathlib.Core.Path.{_≡_, sym}
+use native.Mathlib.Nat.{div-le-self, mod-le}
+use Rattle.derivation.specs.Listing.{gathered}
+use Rattle.lines.specs.Decimal.{Written}
+use Rattle.lines.specs.Listing.{factLineAt}
+use Rattle.lines.proofs.WriteLaws.{gather-none, gather-long, gather-few, gather-room, gather-more}
+use Rattle.lines.proofs.LineLaws.{fact-few}
+use Rattle.lines.proofs.listing.write_facts.Statement.{statement}
+use Rattle.lines.proofs.listing.write_facts.Tie as tie
+
+abbrev Inv-loop : tie.InvT-loop
+Inv-loop out₀ at depths numbers width place₀ q₀ out place q = (q ≤ numbers) × Written out₀ at (gathered q (factLineAt depths width)) out place
+
+abbrev μ-loop : tie.MeasureT-loop
+μ-loop out₀ at depths numbers width place₀ q₀ out place q = numbers - q
+
+loop-holds : tie.Need-loop-holds Inv-loop μ-loop
+loop-holds c =
+    let start = c .before .before in
+    (omega arith, gather-none 29 (start .args .numbers) (factLineAt (start .args .depths .now) (start .args .width)) (λ k l. fact-few (start .args .depths .now) (start .args .width) k (omega (arith, l, start .pre .2)) (omega (arith, c .shared-slice-known .given k))) (start .pre .3))
+
+div-row : tie.Need-div-row Inv-loop μ-loop
+div-row c = search needs
+
+mul-depth : tie.Need-mul-depth Inv-loop μ-loop
+mul-depth c = search needs
+
+shared-slice-read-depth : tie.Need-shared-slice-read-depth Inv-loop μ-loop
+shared-slice-read-depth c = search needs
+
+cast-depth : tie.Need-cast-depth Inv-loop μ-loop
+cast-depth c = omega (arith, c .shared-slice-known2 .given (c .before .before .loop .q))
+
+div-write-fact : tie.Need-div-write-fact Inv-loop μ-loop
+div-write-fact c = search needs
+
+rem-write-fact : tie.Need-rem-write-fact Inv-loop μ-loop
+rem-write-fact c = search needs
+
+rem-write-fact-2 : tie.Need-rem-write-fact-2 Inv-loop μ-loop
+rem-write-fact-2 c = search needs
+
+write-fact-requires : tie.Need-write-fact-requires Inv-loop μ-loop
+write-fact-requires c κs =
+    let start = c .before .before .before .before .before .before in
+    let l = c .before .before .before .loop in
+    let below = c .before .before .loop-test .taken in
+    let small : l .q < 16384 = omega (arith, below, start .pre .2) in
+    let row = div-le-self (l .q) (start .args .width) in (
+      omega (arith, row, div-le-self (l .q / start .args .width) (start .args .width)),
+      omega (arith, row, mod-le (l .q / start .args .width) (start .args .width)),
+      omega (arith, mod-le (l .q) (start .args .width)),
+      omega (arith, c .before .shared-slice-known2 .given (l .q)),
+      gather-room 29 (start .args .numbers) (factLineAt (start .args .depths .now) (start .args .width)) (λ k l. fact-few (start .args .depths .now) (start .args .width) k (omega (arith, l, start .pre .2)) (omega (arith, c .before .shared-slice-known2 .given k))) (start .pre .3) (l .inv .1) below,
+    )
+
+add-q : tie.Need-add-q Inv-loop μ-loop
+add-q c = search needs
+
+loop-less : tie.Need-loop-less Inv-loop μ-loop
+loop-less c = omega (arith, c .before .before .before .before .before .loop-test .taken)
+
+loop-again : tie.Need-loop-again Inv-loop μ-loop
+loop-again c =
+    let start = c .before .before .before .before .before .before .before .before .before in
+    let l = c .before .before .before .before .before .before .loop in
+    let below = c .before .before .before .before .before .loop-test .taken in
+    (omega (arith, below), gather-more 29 (start .args .numbers) (factLineAt (start .args .depths .now) (start .args .width)) (λ k l. fact-few (start .args .depths .now) (start .args .width) k (omega (arith, l, start .pre .2)) (omega (arith, c .before .before .before .before .shared-slice-known2 .given k))) (start .pre .3) (l .inv .1) below (c .before .before .write-fact .ensures))
+
+same-length : tie.Need-same-length Inv-loop μ-loop
+same-length c =
+    let start = c .before .before .before .before in
+    let l = c .before .loop in
+    gather-long 29 (start .args .numbers) (factLineAt (start .args .depths .now) (start .args .width)) (λ k l. fact-few (start .args .depths .now) (start .args .width) k (omega (arith, l, start .pre .2)) (omega (arith, c .before .before .shared-slice-known .given k))) (start .pre .3) (l .inv .1) (l .inv .0)
+
+returns : tie.Need-returns Inv-loop μ-loop
+returns c =
+    let start = c .before .before .before .before in
+    let l = c .before .loop in
+    let e : l .q ≡ start .args .numbers = omega (arith, l .inv .0, c .loop-test .left) in
+    let few = gather-few 29 (start .args .numbers) (factLineAt (start .args .depths .now) (start .args .width)) (λ k l. fact-few (start .args .depths .now) (start .args .width) k (omega (arith, l, start .pre .2)) (omega (arith, c .before .before .shared-slice-known .given k))) (start .pre .3) (l .inv .1) (l .inv .0) in
+    rw (sym e) (l .inv .1, few)
+
+pub write-facts-spec : {M : Type 1} → statement M
+write-facts-spec =
+    tie.close
+    (tie.spec
+    Inv-loop
+    μ-loop
+    loop-holds
+    div-row
+    mul-depth
+    shared-slice-read-depth
+    cast-depth
+    div-write-fact
+    rem-write-fact
+    rem-write-fact-2
+    write-fact-requires
+    add-q
+    loop-less
+    loop-again
+    same-length
+    returns)

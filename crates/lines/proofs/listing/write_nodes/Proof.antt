@@ -1,0 +1,133 @@
+-- `lines::listing::write_nodes` meets its contract. The loop's invariant: the lines of the first k nodes are written. The measure is how many are left.
+use borrow.Author.Needs.{needs}
+use native.Mathlib.Omega.{arith}
+use Prim.Native.Nat.{ℕ, _+_, _-_, _*_, _≤_, _<_}
+use mathlib.Core.Path.{_≡_, sym}
+use lib.ListN.{getD}
+use Rattle.derivation.specs.Listing.{gathered}
+use Rattle.lines.specs.Decimal.{Written}
+use Rattle.lines.specs.Lines.{text, lineOf, numbered}
+use Rattle.lines.specs.Listing.{nodeLineAt}
+use Rattle.lines.proofs.WriteLaws.{gather-none, gather-long, gather-few, gather-room, gather-more}
+use Rattle.lines.proofs.LineLaws.{node-few}
+use Rattle.lines.proofs.listing.write_nodes.Statement.{statement}
+use Rattle.lines.proofs.listing.write_nodes.Tie as tie
+
+abbrev Inv-loop : tie.InvT-loop
+Inv-loop out₀ at nodes count place₀ k₀ t9 out place k = (k ≤ count) × Written out₀ at (gathered k (nodeLineAt nodes)) out place
+
+abbrev μ-loop : tie.MeasureT-loop
+μ-loop out₀ at nodes count place₀ k₀ t9 out place k = count - k
+
+loop-holds : tie.Need-loop-holds Inv-loop μ-loop
+loop-holds c =
+    let start = c .before .before in
+    (omega arith, gather-none 21 (start .args .count) (nodeLineAt (start .args .nodes .now)) (λ k l. node-few (start .args .nodes .now) k (λ i. omega (arith, c .shared-slice-known .given i))) (start .pre .1))
+
+mul-first : tie.Need-mul-first Inv-loop μ-loop
+mul-first c = search needs
+
+shared-slice-read-t12 : tie.Need-shared-slice-read-t12 Inv-loop μ-loop
+shared-slice-read-t12 c = search needs
+
+cast-t13 : tie.Need-cast-t13 Inv-loop μ-loop
+cast-t13 c = omega (arith, c .shared-slice-known2 .given (4 * c .before .before .loop .k))
+
+add-t14 : tie.Need-add-t14 Inv-loop μ-loop
+add-t14 c = search needs
+
+shared-slice-read-t16 : tie.Need-shared-slice-read-t16 Inv-loop μ-loop
+shared-slice-read-t16 c = search needs
+
+cast-t17 : tie.Need-cast-t17 Inv-loop μ-loop
+cast-t17 c = omega (arith, c .shared-slice-known3 .given (4 * c .before .before .before .loop .k + 1))
+
+add-t18 : tie.Need-add-t18 Inv-loop μ-loop
+add-t18 c = search needs
+
+shared-slice-read-t20 : tie.Need-shared-slice-read-t20 Inv-loop μ-loop
+shared-slice-read-t20 c = search needs
+
+cast-t21 : tie.Need-cast-t21 Inv-loop μ-loop
+cast-t21 c = omega (arith, c .shared-slice-known4 .given (4 * c .before .before .before .before .loop .k + 2))
+
+add-t22 : tie.Need-add-t22 Inv-loop μ-loop
+add-t22 c = search needs
+
+shared-slice-read-t24 : tie.Need-shared-slice-read-t24 Inv-loop μ-loop
+shared-slice-read-t24 c = search needs
+
+cast-t25 : tie.Need-cast-t25 Inv-loop μ-loop
+cast-t25 c = omega (arith, c .shared-slice-known5 .given (4 * c .before .before .before .before .before .loop .k + 3))
+
+slice-aggregate-write-line : tie.Need-slice-aggregate-write-line Inv-loop μ-loop
+slice-aggregate-write-line c = search needs
+
+slice-aggregate-write-line-2 : tie.Need-slice-aggregate-write-line-2 Inv-loop μ-loop
+slice-aggregate-write-line-2 c = search needs
+
+write-line-requires : tie.Need-write-line-requires Inv-loop μ-loop
+unfolding numbered lineOf text
+write-line-requires c κs =
+    let start = c .before .before .before .before .before .before .before .before .before .before .before in
+    let l = c .before .before .before .before .before .before .before .before .loop in
+    let byte : (i : ℕ) → getD (start .args .nodes .now) i 0 < 256 = λ i. omega (arith, c .before .before .before .shared-slice-known5 .given i) in
+    let few = node-few (start .args .nodes .now) (l .k) byte in
+    let room = gather-room 21 (start .args .count) (nodeLineAt (start .args .nodes .now)) (λ k l. node-few (start .args .nodes .now) k byte) (start .pre .1) (l .inv .1) (c .before .before .before .before .before .before .before .loop-test .taken) in
+    (omega arith, omega (arith, few, room))
+
+add-k : tie.Need-add-k Inv-loop μ-loop
+add-k c = search needs
+
+loop-less : tie.Need-loop-less Inv-loop μ-loop
+loop-less c = omega (arith, c .before .before .before .before .before .before .before .before .before .before .loop-test .taken)
+
+loop-again : tie.Need-loop-again Inv-loop μ-loop
+unfolding numbered lineOf text
+loop-again c =
+    let start = c .before .before .before .before .before .before .before .before .before .before .before .before .before .before in
+    let l = c .before .before .before .before .before .before .before .before .before .before .before .loop in
+    let below = c .before .before .before .before .before .before .before .before .before .before .loop-test .taken in
+    (omega (arith, below), gather-more 21 (start .args .count) (nodeLineAt (start .args .nodes .now)) (λ k l. node-few (start .args .nodes .now) k (λ i. omega (arith, c .before .before .before .before .before .before .shared-slice-known5 .given i))) (start .pre .1) (l .inv .1) below (c .before .before .write-line .ensures))
+
+same-length : tie.Need-same-length Inv-loop μ-loop
+same-length c =
+    let start = c .before .before .before .before in
+    let l = c .before .loop in
+    gather-long 21 (start .args .count) (nodeLineAt (start .args .nodes .now)) (λ k l. node-few (start .args .nodes .now) k (λ i. omega (arith, c .before .before .shared-slice-known .given i))) (start .pre .1) (l .inv .1) (l .inv .0)
+
+returns : tie.Need-returns Inv-loop μ-loop
+returns c =
+    let start = c .before .before .before .before in
+    let l = c .before .loop in
+    let e : l .k ≡ start .args .count = omega (arith, l .inv .0, c .loop-test .left) in
+    let few = gather-few 21 (start .args .count) (nodeLineAt (start .args .nodes .now)) (λ k l. node-few (start .args .nodes .now) k (λ i. omega (arith, c .before .before .shared-slice-known .given i))) (start .pre .1) (l .inv .1) (l .inv .0) in
+    rw (sym e) (l .inv .1, few)
+
+pub write-nodes-spec : {M : Type 1} → statement M
+write-nodes-spec =
+    tie.close
+    (tie.spec
+    Inv-loop
+    μ-loop
+    loop-holds
+    mul-first
+    shared-slice-read-t12
+    cast-t13
+    add-t14
+    shared-slice-read-t16
+    cast-t17
+    add-t18
+    shared-slice-read-t20
+    cast-t21
+    add-t22
+    shared-slice-read-t24
+    cast-t25
+    slice-aggregate-write-line
+    slice-aggregate-write-line-2
+    write-line-requires
+    add-k
+    loop-less
+    loop-again
+    same-length
+    returns)

@@ -1,0 +1,32 @@
+-- `report::refused_piece` meets its contract.
+use borrow.Author.Needs.{needs}
+use native.Mathlib.Omega.{arith}
+use Prim.Native.Nat.{suc, _<_}
+use mathlib.Core.Path.{_≡_, refl, sym}
+use mathlib.Core.Bool.{false}
+use mathlib.Core.List.{[], _∷_}
+use borrow.Author.Tests.{le-ltb}
+use Rattle.report.specs.Printed.{refusedLine}
+use Rattle.report.proofs.PieceLaws.{piece-written, piece-none, none-after-one}
+use Rattle.report.proofs.refused_piece.Statement.{statement}
+use Rattle.report.proofs.refused_piece.Tie as tie
+
+returns : tie.Need-returns
+returns c =
+    let a = c .before .before .args in
+    let past : 0 < a .number = omega arith in
+    piece-none (refusedLine (a .refusal) ∷ []) (a .number) false (sym (le-ltb (suc (a .number)) 1 (omega arith))) (none-after-one (refusedLine (a .refusal)) (a .number) past)
+
+refused-line-requires : tie.Need-refused-line-requires
+refused-line-requires c κs = omega (arith, c .before .before .before .pre)
+
+same-length : tie.Need-same-length
+same-length c = search needs
+
+returns-2 : tie.Need-returns-2
+returns-2 c =
+    let e : c .before .before .before .before .before .before .args .number ≡ 0 = omega arith in
+    rw e (piece-written (refusedLine (c .before .before .before .before .before .before .args .refusal) ∷ []) 0 false refl (refusedLine (c .before .before .before .before .before .before .args .refusal)) refl (c .before .before .refused-line .ensures .0))
+
+pub refused-piece-spec : {M : Type 1} → statement M
+refused-piece-spec = tie.close (tie.spec returns refused-line-requires same-length returns-2)

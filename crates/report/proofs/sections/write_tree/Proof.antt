@@ -1,0 +1,114 @@
+-- `report::sections::write_tree` meets its contract: the question's line, and then its nodes or the refusal.
+use borrow.Author.Needs.{needs}
+use native.Mathlib.Omega.{arith}
+use Prim.Native.Nat.{ℕ}
+use mathlib.Core.Path.{sym}
+use lib.ListN.{length-replicate}
+use Rattle.lines.specs.Lines.{text, lineOf, numbered}
+use Rattle.lines.proofs.WriteLaws.{written-long, written-then}
+use Rattle.lines.proofs.LineLaws.{three-few}
+use Rattle.report.specs.Printed.{lentWords, lentDepths, lentTree, treeLines}
+use Rattle.report.proofs.NodeLaws.{nodes-printed}
+use Rattle.report.proofs.AnswerLaws.{tree-refused, tree-shown}
+use Rattle.report.proofs.sections.write_tree.Statement.{statement}
+use Rattle.report.proofs.sections.write_tree.Tie as tie
+
+slice-aggregate-write-line : tie.Need-slice-aggregate-write-line
+slice-aggregate-write-line c = search needs
+
+slice-aggregate-write-line-2 : tie.Need-slice-aggregate-write-line-2
+slice-aggregate-write-line-2 c = search needs
+
+write-line-requires : tie.Need-write-line-requires
+write-line-requires c κs =
+    let start = c .before .before .before .before .before .before in
+    let few = three-few 2 (start .args .category) (start .args .start) (start .args .end) (omega arith) (omega arith) (omega arith) in
+    (omega arith, omega (arith, few, start .pre))
+
+slice-aggregate-tree : tie.Need-slice-aggregate-tree
+slice-aggregate-tree c = search needs
+
+slice-aggregate-tree-2 : tie.Need-slice-aggregate-tree-2
+slice-aggregate-tree-2 c = search needs
+
+slice-aggregate-tree-3 : tie.Need-slice-aggregate-tree-3
+slice-aggregate-tree-3 c = search needs
+
+tree-requires : tie.Need-tree-requires
+tree-requires c κs = search needs
+
+enum-known-refusal : tie.Need-enum-known-refusal
+enum-known-refusal c = search needs
+
+refused-line-requires : tie.Need-refused-line-requires
+refused-line-requires c κs =
+    let start = c .before .before .before .before .before .before .before .before .before .before .before .before .before .before .before .before .before .before .before .before in
+    let few = three-few 2 (start .args .category) (start .args .start) (start .args .end) (omega arith) (omega arith) (omega arith) in
+    let line = c .before .before .before .before .before .before .before .before .before .before .before .before .before .write-line .ensures in
+    let long = written-long (omega (arith, few, start .pre)) line in
+    omega (arith, few, long, line .after, start .pre)
+
+enum-known-count : tie.Need-enum-known-count
+enum-known-count c = search needs
+
+slice-aggregate-write-nodes : tie.Need-slice-aggregate-write-nodes
+slice-aggregate-write-nodes c = search needs
+
+write-nodes-requires : tie.Need-write-nodes-requires
+write-nodes-requires c κs =
+    let start = c .before .before .before .before .before .before .before .before .before .before .before .before .before .before .before .before .before .before .before .before .before in
+    let few = three-few 2 (start .args .category) (start .args .start) (start .args .end) (omega arith) (omega arith) (omega arith) in
+    let line = c .before .before .before .before .before .before .before .before .before .before .before .before .before .before .write-line .ensures in
+    let long = written-long (omega (arith, few, start .pre)) line in
+    let shows = tree-shown _ _ _ _ _ _ _ _ (rw (c .before .before .before .count .given .1) at (c .before .before .before .before .before .before .before .before .tree .ensures)) in
+    let room = length-replicate {A = ℕ} 4096 0 in
+    (omega (arith, shows .room, shows .long), omega (arith, few, long, line .after, start .pre, shows .room, room))
+
+same-length : tie.Need-same-length
+same-length c = search needs
+
+returns : tie.Need-returns
+unfolding treeLines lentWords lentDepths lentTree numbered lineOf text
+returns c =
+    let start = c .before .before .before .before .before .before .before .before .before .before .before .before .before .before .before .before .before .before .before .before .before .before .before in
+    let few = three-few 2 (start .args .category) (start .args .start) (start .args .end) (omega arith) (omega arith) (omega arith) in
+    let line = c .before .before .before .before .before .before .before .before .before .before .before .before .before .before .before .before .write-line .ensures in
+    let refusal = c .before .before .refused-line .ensures in
+    let refused = tree-refused _ _ _ _ _ _ _ _ (rw (c .before .before .before .before .before .refusal .given .1) at (c .before .before .before .before .before .before .before .before .before .before .tree .ensures)) in
+    rw refused (written-then (omega (arith, few, line .after, refusal .0 .after, refusal .1, start .pre)) line (refusal .0))
+
+same-length-2 : tie.Need-same-length-2
+same-length-2 c = search needs
+
+returns-2 : tie.Need-returns-2
+unfolding treeLines lentWords lentDepths lentTree numbered lineOf text
+returns-2 c =
+    let start = c .before .before .before .before .before .before .before .before .before .before .before .before .before .before .before .before .before .before .before .before .before .before .before .before in
+    let few = three-few 2 (start .args .category) (start .args .start) (start .args .end) (omega arith) (omega arith) (omega arith) in
+    let line = c .before .before .before .before .before .before .before .before .before .before .before .before .before .before .before .before .before .write-line .ensures in
+    let nodes = c .before .before .write-nodes .ensures in
+    let shows = tree-shown _ _ _ _ _ _ _ _ (rw (c .before .before .before .before .before .before .count .given .1) at (c .before .before .before .before .before .before .before .before .before .before .before .tree .ensures)) in
+    let room = length-replicate {A = ℕ} 4096 0 in
+    let printed = nodes-printed _ _ (shows .nodes) (shows .begins) in
+    rw (shows .passed, sym printed) (written-then (omega (arith, few, line .after, nodes .0 .after, nodes .1, start .pre, shows .room, room)) line (nodes .0))
+
+pub write-tree-spec : {M : Type 1} → statement M
+write-tree-spec =
+    tie.close
+    (tie.spec
+    slice-aggregate-write-line
+    slice-aggregate-write-line-2
+    write-line-requires
+    slice-aggregate-tree
+    slice-aggregate-tree-2
+    slice-aggregate-tree-3
+    tree-requires
+    enum-known-refusal
+    refused-line-requires
+    enum-known-count
+    slice-aggregate-write-nodes
+    write-nodes-requires
+    same-length
+    returns
+    same-length-2
+    returns-2)

@@ -1,0 +1,125 @@
+-- `report::write_piece` meets its contract: the parts of the job are handed on.
+use borrow.Author.Needs.{needs}
+use native.Mathlib.Omega.{arith}
+use Prim.Native.Nat.{_+_, _-_}
+use mathlib.Core.Path.{_≡_, sym, _∙_}
+use Rattle.report.specs.Pieces.{pieces}
+use Rattle.report.proofs.JobLaws.{job-read}
+use Rattle.report.proofs.PieceLaws.{questions-read}
+use Rattle.report.proofs.write_piece.Statement.{statement}
+use Rattle.report.proofs.write_piece.Tie as tie
+
+read-job-requires : tie.Need-read-job-requires
+read-job-requires c κs = search needs
+
+enum-known-refusal : tie.Need-enum-known-refusal
+enum-known-refusal c = search needs
+
+refused-piece-requires : tie.Need-refused-piece-requires
+refused-piece-requires c κs = search needs
+
+enum-known-job : tie.Need-enum-known-job
+enum-known-job c = search needs
+
+add-line-at : tie.Need-add-line-at
+add-line-at c =
+    let read = job-read _ _ (sym (c .before .before .before .before .read-job .ensures) ∙ c .before .before .job .given .1) in
+    omega (arith, read .whole)
+
+add-line-end : tie.Need-add-line-end
+add-line-end c =
+    let read = job-read _ _ (sym (c .before .before .before .before .before .read-job .ensures) ∙ c .before .before .before .job .given .1) in
+    omega (arith, read .whole)
+
+add-questions-at : tie.Need-add-questions-at
+add-questions-at c =
+    let read = job-read _ _ (sym (c .before .before .before .before .before .read-job .ensures) ∙ c .before .before .before .job .given .1) in
+    omega (arith, read .whole)
+
+sub-grammar-end : tie.Need-sub-grammar-end
+sub-grammar-end c = search needs
+
+sub-job-piece : tie.Need-sub-job-piece
+sub-job-piece c = search needs
+
+part-job-piece-start : tie.Need-part-job-piece-start
+part-job-piece-start c = search needs
+
+part-job-piece-end : tie.Need-part-job-piece-end
+part-job-piece-end c =
+    let read = job-read _ _ (sym (c .before .before .before .before .before .read-job .ensures) ∙ c .before .before .before .job .given .1) in
+    omega (arith, read .whole)
+
+sub-job-piece-2 : tie.Need-sub-job-piece-2
+sub-job-piece-2 c = search needs
+
+part-job-piece-start-2 : tie.Need-part-job-piece-start-2
+part-job-piece-start-2 c = search needs
+
+part-job-piece-end-2 : tie.Need-part-job-piece-end-2
+part-job-piece-end-2 c =
+    let read = job-read _ _ (sym (c .before .before .before .before .before .before .read-job .ensures) ∙ c .before .before .before .before .job .given .1) in
+    omega (arith, read .whole)
+
+sub-job-piece-3 : tie.Need-sub-job-piece-3
+sub-job-piece-3 c =
+    let read = job-read _ _ (sym (c .before .before .before .before .before .before .before .read-job .ensures) ∙ c .before .before .before .before .before .job .given .1) in
+    omega (arith, read .whole)
+
+part-job-piece-start-3 : tie.Need-part-job-piece-start-3
+part-job-piece-start-3 c =
+    let read = job-read _ _ (sym (c .before .before .before .before .before .before .before .read-job .ensures) ∙ c .before .before .before .before .before .job .given .1) in
+    omega (arith, read .whole)
+
+part-job-piece-end-3 : tie.Need-part-job-piece-end-3
+part-job-piece-end-3 c = search needs
+
+job-piece-requires : tie.Need-job-piece-requires
+job-piece-requires c κs = search needs
+
+same-length : tie.Need-same-length
+same-length c = search needs
+
+returns : tie.Need-returns
+unfolding pieces
+returns c = rw (sym (c .before .before .before .before .before .before .before .read-job .ensures) ∙ c .before .before .before .before .before .refusal .given .1) (c .before .before .refused-piece .ensures)
+
+same-length-2 : tie.Need-same-length-2
+same-length-2 c = search needs
+
+returns-2 : tie.Need-returns-2
+unfolding pieces
+returns-2 c =
+    let read = job-read _ _ (sym (c .before .before .before .before .before .before .before .before .before .before .before .before .read-job .ensures) ∙ c .before .before .before .before .before .before .before .before .before .before .job .given .1) in
+    let job = c .before .before .before .before .before .before .before .before .before .before .job .given .0 .0 in
+    let e₁ : 3 + job .grammar - 1 - 2 ≡ job .grammar = omega arith in
+    let e₂ : 3 + job .grammar + job .line - (3 + job .grammar) ≡ job .line = omega arith in
+    let asked = questions-read _ _ read (3 + job .grammar + job .line + 1) (omega arith) in
+    rw (sym (c .before .before .before .before .before .before .before .before .before .before .before .before .read-job .ensures) ∙ c .before .before .before .before .before .before .before .before .before .before .job .given .1) (rw (e₁, e₂, asked) at (c .before .before .job-piece .ensures))
+
+pub write-piece-spec : {M : Type 1} → statement M
+write-piece-spec =
+    tie.close
+    (tie.spec
+    read-job-requires
+    enum-known-refusal
+    refused-piece-requires
+    enum-known-job
+    add-line-at
+    add-line-end
+    add-questions-at
+    sub-grammar-end
+    sub-job-piece
+    part-job-piece-start
+    part-job-piece-end
+    sub-job-piece-2
+    part-job-piece-start-2
+    part-job-piece-end-2
+    sub-job-piece-3
+    part-job-piece-start-3
+    part-job-piece-end-3
+    job-piece-requires
+    same-length
+    returns
+    same-length-2
+    returns-2)
