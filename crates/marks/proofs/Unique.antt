@@ -44,13 +44,13 @@ marks-unique {G} {line} {marks} {a} {b} p q = (
     same t (yes l) = mark-one (p .mark t l) (q .mark t l)
     same t (no n) = p .past t (omega arith) ∙ sym (q .past t (omega arith))
 
-length-listed : (f : ℕ → ℕ) (i n : ℕ) → length (listed f i n) ≡ n
+pub length-listed : (f : ℕ → ℕ) (i n : ℕ) → length (listed f i n) ≡ n
 unfolding listed
 length-listed f i zero = refl
 length-listed f i (suc n) = ap suc (length-listed f (suc i) n)
 
 -- the computed mark of a token
-mark-computed : (G : Grammar) (line : List ℕ) (t : ℕ) → Proper G → MarkIs G line t (cond (computed.secret G line t) 1 0)
+pub mark-computed : (G : Grammar) (line : List ℕ) (t : ℕ) → Proper G → MarkIs G line t (cond (computed.secret G line t) 1 0)
 mark-computed G line t proper = go (computed.secret G line t) (secret-iff G line proper t)
   where
     go : (b : Bool) → (b ≡ true) ↔ Secret G line t → MarkIs G line t (cond b 1 0)

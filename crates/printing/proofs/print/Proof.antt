@@ -1,4 +1,4 @@
--- `spans::print` meets its contract. The loop's invariant: piece `number` is there. The measure is how many are left.
+-- `printing::print` meets its contract. The loop's invariant: piece `number` is there. The measure is how many are left.
 use borrow.Author.Needs.{needs}
 use native.Mathlib.Omega.{arith}
 use Prim.Native.Nat.{_-_, _<_}
@@ -9,8 +9,8 @@ use lib.Seq.{length-take-le}
 use borrow.Author.Tests.{ltb-true}
 use Rattle.report.specs.Pieces.{pieces}
 use Rattle.report.proofs.PieceLaws.{pieces-some, pieces-few, yielded-within}
-use Rattle.spans.proofs.print.Statement.{statement}
-use Rattle.spans.proofs.print.Tie as tie
+use Rattle.printing.proofs.print.Statement.{statement}
+use Rattle.printing.proofs.print.Tie as tie
 
 abbrev Inv-loop : tie.InvT-loop
 Inv-loop input out₀ number₀ out number = (number < length (pieces input)) × (length out ≡ length out₀)

@@ -1,0 +1,193 @@
+-- An accepted grammar: the question is answered, or turned down after the filling, and the work memory is filled.
+use Prim.Native.Nat.{ℕ, _+_, _*_, _≤_, _<_}
+use mathlib.Core.Path.{_≡_, refl, sym, ap, _∙_}
+use mathlib.Core.Bool.{true, cond}
+use mathlib.Core.List.{List, [], _∷_, map}
+use native.Mathlib.Omega.{arith}
+use lib.ListN.{length, getD, length-map}
+use lib.Count.{trailingZeros}
+use borrow.Author.Tests.{le-ltb}
+use Rattle.refusals.specs.declared.Check.{Check}
+use Rattle.refusals.specs.declared.Check.the-variants as check
+use Rattle.refusals.specs.Row.{rowOf}
+use Rattle.refusals.specs.Order.{early}
+use Rattle.refusals.specs.Told.{Told, answered, refused}
+use Rattle.positions.specs.Count.{countBelow}
+use Rattle.positions.proofs.Extremes.{first-trailing}
+use Rattle.derivation.specs.Grammar.{Grammar, Proper}
+use Rattle.derivation.specs.Node.{Node}
+use Rattle.derivation.specs.Branch as derivation
+use Rattle.derivation.specs.RoundsOf.{roundsOf}
+use Rattle.derivation.specs.FactCount.{total, factCount}
+use Rattle.derivation.specs.Marks as of-line
+use Rattle.derivation.specs.Shown.{shown}
+use Rattle.derivation.specs.Forest as records
+use Rattle.derivation.proofs.Tests.{and-parts}
+use Rattle.derivation.proofs.Totals.{total-same}
+use Rattle.derivation.proofs.Table.{at-listed}
+use Rattle.derivation.proofs.RoundsOf.{roundsOf-is}
+use Rattle.checks.specs.Memory.{workCheck}
+use Rattle.checks.proofs.Laws.{start-passed}
+use Rattle.grammar.specs.Given.{sectionsGiven, grammarGiven}
+use Rattle.grammar.proofs.Encoded.{category-count, accepted-proper}
+use Rattle.filling.specs.Filled.{WorkFilled}
+use Rattle.chart.specs.declared.ChartAnswer.the-variants as chart-answer
+use Rattle.chart.specs.declared.EndsAnswer.the-variants as ends-answer
+use Rattle.chart.specs.Checks.{checksOf, endsQuestion}
+use Rattle.chart.specs.ChartOutcome as chart-outcome
+use Rattle.chart.specs.EndsOutcome as ends-outcome
+use Rattle.chart.proofs.CheckLaws.{Passes, sections, early-passed}
+use Rattle.marks.specs.declared.MarksAnswer.the-variants as marks-answer
+use Rattle.marks.specs.Marks.{MarksAre}
+use Rattle.marks.proofs.Unique.{length-listed, mark-computed}
+use Rattle.marks.proofs.OutcomeLaws.{marks-answered}
+use Rattle.tree.specs.declared.TreeAnswer.the-variants as tree-answer
+use Rattle.tree.specs.Bytes.{nodeBytes, bytes}
+use Rattle.tree.specs.Checks.{treeQuestion, treeFact, treeRoom}
+use Rattle.tree.specs.Outcome as tree-outcome
+use Rattle.forest.specs.declared.ForestAnswer.the-variants as forest-answer
+use Rattle.forest.specs.Checks.{recordCount, roomCheck}
+use Rattle.forest.specs.Writing as writing
+use Rattle.forest.specs.Outcome as forest-outcome
+use Rattle.examples.specs.Entry.{Graded, Question, chart, ends, marks, tree, forest, holding}
+use Rattle.examples.specs.Memory.{wordAt, written, Lent, wordsAfter, depthsAfter}
+use Rattle.examples.specs.Claim.{OutcomeIs}
+use Rattle.examples.proofs.Test.{same, sameBy, sameTold, passes, workTest, treeTest, answerTest}
+use Rattle.examples.proofs.TestLaws.{same-is, same-by, node-one, branch-one, told-is, passes-is}
+use Rattle.examples.proofs.WorkLaws.{written-long, written-at, written-past, word-shows, work-filled}
+
+-- marks that are the computed ones, over any old contents
+marks-are : (G : Grammar) (line new row : List ℕ) → Proper G → new ≡ of-line.marks G line → length line ≤ length row → MarksAre G line row (written new row) (total (λ t. getD new t 0) (length line))
+unfolding of-line.marks
+marks-are G line new row proper e room =
+    let mark : ℕ → ℕ = λ t. cond (of-line.secret G line t) 1 0 in
+    let long : length new ≡ length line = rw e (length-listed mark 0 (length line)) in
+    let at : (t : ℕ) → t < length line → getD (written new row) t 0 ≡ getD new t 0 = λ t l. written-at new row t (omega arith) in
+    record {
+      long = written-long new row (omega arith);
+      mark = λ t l. rw (at t l, e, at-listed mark 0 (length line) t l) (mark-computed G line t proper);
+      past = λ q l. written-past new row q (omega arith);
+      ones = total-same _ _ (length line) (λ t l. sym (at t l));
+    }
+
+module _ (g line : List ℕ) (ok : Passes g line (sectionsGiven g)) (facts : List Graded) (filled : workTest g line facts ≡ true) where
+  abbrev G : Grammar
+  G = grammarGiven g
+
+  proper : Proper G
+  proper = accepted-proper g (sectionsGiven g) (ok .read)
+
+  categories : length (G .categories) ≡ sectionsGiven g .categories
+  categories = category-count g (sectionsGiven g) (sections g line (sectionsGiven g) ok)
+
+  module _ (words depths : List ℕ) (lent : Lent g line words depths) where
+    memory-passes : workCheck (sectionsGiven g .categories) (length line) (length words) (length depths) ≡ check.Passed
+    memory-passes = rw (← categories, le-ltb _ _ (lent .words-enough), le-ltb _ _ (lent .depths-enough))
+
+    -- the early checks pass where the question's own does
+    passed : (question fact room : Check) → question ≡ check.Passed → early (checksOf g line words depths question fact room) ≡ check.Passed
+    passed question fact room q = early-passed g line (sectionsGiven g) ok words depths question fact room q memory-passes
+
+    work : WorkFilled G line words depths (wordsAfter g line (holding facts) words) (depthsAfter g line (holding facts) depths)
+    work = work-filled g line proper facts filled words depths lent
+
+  chart-holds : (told : Told) → answerTest g line facts chart told ≡ true → OutcomeIs g line chart told (holding facts)
+  unfolding answerTest
+  chart-holds told t = λ words depths lent. (
+    chart-answer.Filled (roundsOf G line) (factCount G line),
+    sym (told-is told _ t),
+    chart-outcome.filled {rounds = roundsOf G line} {facts = factCount G line}
+        (rw (passed words depths lent check.Passed check.Passed check.Passed refl))
+        refl
+        (roundsOf-is G line proper)
+        refl
+        (work words depths lent),
+  )
+
+  ends-holds : (A i : ℕ) (told : Told) → answerTest g line facts (ends A i) told ≡ true → OutcomeIs g line (ends A i) told (holding facts)
+  unfolding answerTest
+  ends-holds A i told t =
+      let row = wordAt facts (length line + 1) (A * (length line + 1) + i) in
+      let p = and-parts (passes (endsQuestion g line A i)) (sameTold told (answered (row ∷ countBelow 64 row ∷ trailingZeros 64 row ∷ []))) t in
+      let question = passes-is (endsQuestion g line A i) (p .0) in
+      let inside = start-passed (sectionsGiven g .categories) (length line) A i question in
+      λ words depths lent. (
+        ends-answer.Row row (countBelow 64 row) (trailingZeros 64 row),
+        sym (told-is told _ (p .1)),
+        ends-outcome.found {row = row} {count = countBelow 64 row} {smallest = trailingZeros 64 row}
+            (rw (passed words depths lent (endsQuestion g line A i) check.Passed check.Passed question))
+            refl
+            (word-shows g line proper facts filled A i (rw categories (inside .0)) (inside .1))
+            refl
+            (first-trailing row)
+            (work words depths lent),
+      )
+
+  marks-holds : (new : List ℕ) (told : Told) → answerTest g line facts (marks new) told ≡ true → OutcomeIs g line (marks new) told (holding facts)
+  unfolding answerTest of-line.marks
+  marks-holds new told t =
+      let secret = total (λ t. getD new t 0) (length line) in
+      let p = and-parts (same new (of-line.marks G line)) (sameTold told (answered (secret ∷ []))) t in
+      let is = same-is new (of-line.marks G line) (p .0) in
+      let long : length new ≡ length line = rw is (length-listed _ 0 (length line)) in
+      λ words depths row lent room. (
+        marks-answer.Marked secret,
+        sym (told-is told _ (p .1)),
+        marks-answered g line words depths row (sectionsGiven g) ok (memory-passes words depths lent) secret _ _ (written new row) (omega arith) (work words depths lent)
+            (marks-are G line new row proper is (omega arith)),
+      )
+
+  tree-holds : (A i j : ℕ) (nodes : List Node) (told : Told) → treeQuestion g line A i j ≡ check.Passed → (c : Check) → treeFact G line A i j ≡ c → treeTest g line A i j nodes told c ≡ true →
+      OutcomeIs g line (tree A i j nodes) told (holding facts)
+  unfolding treeTest bytes
+  tree-holds A i j nodes told question check.Passed fact t =
+      let p = and-parts (sameBy nodeBytes nodes (shown G line A i j)) (sameTold told (answered (length nodes ∷ []))) t in
+      let is = same-by nodeBytes node-one nodes (shown G line A i j) (p .0) in
+      λ words depths row lent room.
+      let first = passed words depths lent (treeQuestion g line A i j) (treeFact G line A i j) (treeRoom G line A i j row) question in
+      let fits : length (bytes (shown G line A i j)) ≤ length row = rw is at room in (
+        tree-answer.Nodes (length nodes),
+        sym (told-is told _ (p .1)),
+        tree-outcome.shows {count = length nodes}
+            (rw (first, fact, le-ltb (length row) (length (bytes (shown G line A i j))) fits))
+            refl
+            (ap length is)
+            (work words depths lent)
+            (ap (λ (l : List Node). written (bytes l) row) is),
+      )
+  tree-holds A i j nodes told question (check.Refused refusal) fact t =
+      let p = and-parts (sameBy nodeBytes nodes []) (sameTold told (refused (rowOf refusal))) t in
+      let none = same-by nodeBytes node-one nodes [] (p .0) in
+      λ words depths row lent room. (
+        tree-answer.Refused refusal,
+        sym (told-is told _ (p .1)),
+        tree-outcome.noTree {refusal = refusal} (passed words depths lent (treeQuestion g line A i j) (treeFact G line A i j) (treeRoom G line A i j row) question) (rw fact) refl refl (work words depths lent) (rw none),
+      )
+
+  forest-holds : (branches : List derivation.Branch) (told : Told) → answerTest g line facts (forest branches) told ≡ true → OutcomeIs g line (forest branches) told (holding facts)
+  unfolding answerTest
+  forest-holds branches told t =
+      let p = and-parts (sameBy derivation.numbers branches (records.forest G line)) (sameTold told (answered (length branches ∷ []))) t in
+      let is = same-by derivation.numbers branch-one branches (records.forest G line) (p .0) in
+      λ words depths rows lent room.
+      let first = passed words depths lent check.Passed check.Passed (roomCheck G line (length rows)) refl in
+      let fits : recordCount G line ≤ length rows = rw is at room in (
+        forest-answer.Records (length branches),
+        sym (told-is told _ (p .1)),
+        forest-outcome.answered
+            (rw (first, le-ltb (length rows) (recordCount G line) fits))
+            (ap (λ (l : List derivation.Branch). forest-answer.Records (length l)) is)
+            (ap (λ (l : List derivation.Branch). answered (length l ∷ [])) is)
+            (work words depths lent)
+            (ap (λ (l : List derivation.Branch). written (map writing.written l) rows) is ∙ rw (length-map (records.forest G line) writing.written)),
+      )
+
+  pub answer-holds : (question : Question) (told : Told) → answerTest g line facts question told ≡ true → OutcomeIs g line question told (holding facts)
+  unfolding answerTest
+  answer-holds chart told t = chart-holds told t
+  answer-holds (ends A i) told t = ends-holds A i told t
+  answer-holds (marks new) told t = marks-holds new told t
+  answer-holds (tree A i j nodes) told t =
+      let p = and-parts (passes (treeQuestion g line A i j)) (treeTest g line A i j nodes told (treeFact G line A i j)) t in
+      tree-holds A i j nodes told (passes-is (treeQuestion g line A i j) (p .0)) (treeFact G line A i j) refl (p .1)
+  answer-holds (forest branches) told t = forest-holds branches told t

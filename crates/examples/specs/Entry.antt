@@ -1,0 +1,52 @@
+-- An example: grammar bytes, line and question, and the whole outcome.
+use Prim.Native.Nat.{ℕ}
+use mathlib.Core.List.{List}
+use Rattle.refusals.specs.Told.{Told, refused}
+use Rattle.derivation.specs.Node.{Node}
+use Rattle.derivation.specs.Branch.{Branch}
+
+-- a fact with its depth: A, i, j, depth
+pub record Graded : Type 0 where
+  pub category : ℕ
+  pub start : ℕ
+  pub end : ℕ
+  pub depth : ℕ
+
+-- a question, and what it writes into the row that is lent for its marks, nodes or records
+pub data Question : Type 0 where
+  chart : Question
+  -- of (A, i)
+  ends : ℕ → ℕ → Question
+  marks : List ℕ → Question
+  -- of (A, i, j)
+  tree : ℕ → ℕ → ℕ → List Node → Question
+  forest : List Branch → Question
+
+-- what the work memory holds afterwards
+pub data Work : Type 0 where
+  -- what it held on entry
+  asBefore : Work
+  -- the chart and the depths of these facts
+  holding : List Graded → Work
+
+pub record Entry : Type 0 where
+  pub grammar : List ℕ
+  pub line : List ℕ
+  pub question : Question
+  -- the values answered, or the number and place of the refusal
+  pub told : Told
+  pub work : Work
+
+-- as they are printed: fact A i j depth, node kind number start end, and the record p d i m j
+abbrev pub fact : ℕ → ℕ → ℕ → ℕ → Graded
+fact A i j depth = record { category = A; start = i; end = j; depth = depth }
+
+abbrev pub node : ℕ → ℕ → ℕ → ℕ → Node
+node kind number i j = record { kind = kind; number = number; start = i; end = j }
+
+abbrev pub branch : ℕ → ℕ → ℕ → ℕ → ℕ → Branch
+branch p d i m j = record { rule = p; place = d; start = i; middle = m; end = j }
+
+-- the refusal of this number at this place
+abbrev pub refusedBy : ℕ → ℕ → Told
+refusedBy number place = refused (record { number = number; place = place })

@@ -1,0 +1,4 @@
+pub mod Entry
+pub mod Memory
+pub mod Claim
+pub mod Table

@@ -1,0 +1,129 @@
+// Runs jobs that are written in decimal, a line of standard input each, and prints what they lead to; a line that begins with # is printed as it is.
+ghost use Prim.Native.Nat.{_≤_, _<_};
+ghost use lib.ListN.{length};
+ghost use Rattle.vectors.specs.Onward.{Onward};
+use printing::piece_room;
+use printing::print;
+
+// A number and the place after it; 256 where none stands.
+struct Number {
+    pub value: usize,
+    pub next: usize,
+}
+
+// A number with one digit more, cut at 256; 256 where the byte is no digit.
+fn with_digit(value: usize, byte: u8) -> usize
+    ensures { λ r. ⌜ r ≤ 256 ⌝ }
+{
+    if byte < b'0' {
+        return 256;
+    }
+    if b'9' < byte {
+        return 256;
+    }
+    if 25 < value {
+        return 256;
+    }
+    let digit = byte - b'0';
+    let longer = value * 10 + digit as usize;
+    if 256 < longer {
+        return 256;
+    }
+    longer
+}
+
+// The number at a place: its digits up to the first byte that makes it 256.
+fn number_at(line: &[u8], at: usize) -> Number
+    requires { ⌜ at < length (now line) ⌝ }
+    ensures { λ r. ⌜ Onward (now (line .entry)) at (r .next) ⌝ }
+{
+    let mut value = with_digit(0, line[at]);
+    let mut next = at + 1;
+    while next < line.len() {
+        let longer = with_digit(value, line[next]);
+        if longer == 256 {
+            return Number { value, next };
+        }
+        value = longer;
+        next += 1;
+    }
+    Number { value, next }
+}
+
+// Writes a number as a byte where it is one and has room, and answers how many bytes there are.
+fn put_number(job: &mut [u8], count: usize, value: usize) -> usize
+    requires { ⌜ count ≤ length (now job) ⌝ }
+    ensures { λ r. ⌜ r ≤ length (now (job .exit)) ⌝ }
+{
+    if count == job.len() {
+        return count;
+    }
+    if 255 < value {
+        return count;
+    }
+    job[count] = value as u8;
+    count + 1
+}
+
+// Writes the numbers of a line as bytes, as many as have room, and answers how many they are.
+fn read_numbers(line: &[u8], job: &mut [u8]) -> usize
+    ensures { λ r. ⌜ r ≤ length (now (job .exit)) ⌝ }
+{
+    let mut count = 0;
+    let mut at = 0;
+    while at < line.len() {
+        let number = number_at(line, at);
+        count = put_number(job, count, number.value);
+        at = number.next;
+    }
+    count
+}
+
+// Where the line ends that begins at a place: at byte 10 or at the end of the text.
+fn line_end(text: &[u8], at: usize) -> usize
+    requires { ⌜ at < length (now text) ⌝ }
+    ensures { λ r. ⌜ (at ≤ r) × (r ≤ length (now (text .entry))) ⌝ }
+{
+    let mut end = at;
+    while end < text.len() {
+        if text[end] == b'\n' {
+            return end;
+        }
+        end += 1;
+    }
+    end
+}
+
+// Runs the line that begins at a place, and answers where the next begins.
+fn run_line(text: &[u8], at: usize, job: &mut [u8], out: &mut [u8]) -> usize
+    requires { ⌜ (at < length (now text)) × (475200 ≤ length (now out)) ⌝ }
+    ensures { λ r. ⌜ at < r ⌝ }
+{
+    let end = line_end(text, at);
+    if text[at] == b'#' {
+        io::write_all(1, &text[at..end]);
+        io::write_all(1, b"\n");
+        return end + 1;
+    }
+    let count = read_numbers(&text[at..end], job);
+    print(&job[..count], out);
+    end + 1
+}
+
+// Runs every line.
+fn run(text: &[u8], job: &mut [u8], out: &mut [u8])
+    requires { ⌜ 475200 ≤ length (now out) ⌝ }
+{
+    let mut at = 0;
+    while at < text.len() {
+        at = run_line(text, at, job, out);
+    }
+}
+
+fn main() {
+    let mut text = io::large_buffer();
+    let mut job = io::buffer();
+    let mut out = piece_room();
+    let length = io::read_full(0, &mut text);
+    run(&text[..length], &mut job, &mut out);
+}
