@@ -1,0 +1,58 @@
+-- `exports::berylskip_chart` meets its contract: the question's answer is handed over, by its values or as a refusal.
+use mathlib.Core.Path.{ap}
+use borrow.Author.Needs.{needs}
+use Rattle.chart.specs.Told.{chartTold}
+use Rattle.exports.proofs.Handing.{hands-values, hands-refusal}
+use Rattle.exports.proofs.berylskip_chart.Statement.{statement}
+use Rattle.exports.proofs.berylskip_chart.Tie as tie
+
+chart-requires : tie.Need-chart-requires
+chart-requires c κs = search needs
+
+enum-known-refusal : tie.Need-enum-known-refusal
+enum-known-refusal c = search needs
+
+refuse-requires : tie.Need-refuse-requires
+refuse-requires c κs = search needs
+
+enum-known-r : tie.Need-enum-known-r
+enum-known-r c = search needs
+
+same-length : tie.Need-same-length
+same-length c = search needs
+
+same-length-2 : tie.Need-same-length-2
+same-length-2 c = search needs
+
+returns : tie.Need-returns
+returns c =
+    let matched = c .before .before .before in
+    let asked = matched .before .before .before .before .before .before in
+    hands-refusal (asked .chart .result) (asked .chart .ensures) (matched .refusal .given .0 .0) (ap chartTold (matched .refusal .given .1)) (c .refuse .ensures)
+
+same-length-3 : tie.Need-same-length-3
+same-length-3 c = search needs
+
+same-length-4 : tie.Need-same-length-4
+same-length-4 c = search needs
+
+returns-2 : tie.Need-returns-2
+returns-2 c =
+    let matched = c .before in
+    let asked = matched .before .before .before .before .before .before in
+    hands-values (asked .chart .result) (asked .chart .ensures) _ (ap chartTold (matched .r .given .1))
+
+pub berylskip-chart-spec : {M : Type 1} → statement M
+berylskip-chart-spec =
+    tie.close
+    (tie.spec
+    chart-requires
+    enum-known-refusal
+    refuse-requires
+    enum-known-r
+    same-length
+    same-length-2
+    returns
+    same-length-3
+    same-length-4
+    returns-2)

@@ -1,0 +1,120 @@
+//! How many calls ended in which way, by question, and how many cases there were of each kind.
+
+use crate::questions::Question;
+use berylskip::Refused;
+use std::collections::BTreeMap;
+
+const QUESTIONS: [&str; 5] = ["chart", "ends", "marks", "tree", "forest"];
+const LAST_NUMBER: usize = 13;
+
+#[derive(Default)]
+pub struct Tally {
+    kinds: BTreeMap<&'static str, usize>,
+    endings: [[usize; LAST_NUMBER + 1]; 5],
+    printed: [usize; LAST_NUMBER + 1],
+}
+
+impl Tally {
+    pub fn add_kind(&mut self, kind: &'static str) {
+        *self.kinds.entry(kind).or_insert(0) += 1;
+    }
+
+    /// One call of the library: answered, or refused by a number.
+    pub fn add_call(&mut self, question: Question, refused: Option<Refused>) {
+        let row = match question {
+            Question::Chart => 0,
+            Question::Ends { .. } => 1,
+            Question::Marks => 2,
+            Question::Tree { .. } => 3,
+            Question::Forest => 4,
+        };
+        self.endings[row][refused.map_or(0, |refused| refused.number as usize)] += 1;
+    }
+
+    /// One run of the program: the refusals that it is to print, or an answer where there is none.
+    pub fn add_printed(&mut self, text: &[u8]) {
+        let text = String::from_utf8_lossy(text);
+        let mut refused = false;
+        for line in text.lines() {
+            let mut fields = line.split(' ');
+            if fields.next() == Some("refused") {
+                let number: usize = fields
+                    .next()
+                    .and_then(|field| field.parse().ok())
+                    .unwrap_or(0);
+                self.printed[number.min(LAST_NUMBER)] += 1;
+                refused = true;
+            }
+        }
+        if !refused {
+            self.printed[0] += 1;
+        }
+    }
+
+    pub fn calls(&self) -> usize {
+        self.endings.iter().flatten().sum()
+    }
+
+    /// The refusals of the library (1 to 11) that no call met.
+    pub fn never_met(&self) -> Vec<usize> {
+        (1..=11)
+            .filter(|&number| self.endings.iter().all(|row| row[number] == 0))
+            .collect()
+    }
+
+    pub fn print(&self) {
+        self.print_kinds();
+        println!("calls of the library by outcome (0 is an answer, the others are refusals):");
+        print_row(
+            "",
+            &(0..=11)
+                .map(|number| number.to_string())
+                .collect::<Vec<_>>(),
+        );
+        for (name, row) in QUESTIONS.iter().zip(&self.endings) {
+            print_row(
+                name,
+                &row[..=11].iter().map(usize::to_string).collect::<Vec<_>>(),
+            );
+        }
+        if self.printed.iter().sum::<usize>() > 0 {
+            self.print_runs();
+        }
+    }
+
+    /// What `fuzz_spans` has to say: no call of the library is counted there.
+    pub fn print_printed(&self) {
+        self.print_kinds();
+        self.print_runs();
+    }
+
+    fn print_kinds(&self) {
+        println!("inputs by kind:");
+        for (kind, count) in &self.kinds {
+            println!("  {kind}: {count}");
+        }
+    }
+
+    fn print_runs(&self) {
+        println!("runs of spans by what is printed (0 is a job without a refusal, else lines 'refused'):");
+        print_row(
+            "",
+            &(0..=13)
+                .map(|number| number.to_string())
+                .collect::<Vec<_>>(),
+        );
+        print_row(
+            "spans",
+            &self
+                .printed
+                .iter()
+                .map(usize::to_string)
+                .collect::<Vec<_>>(),
+        );
+    }
+}
+
+fn print_row(name: &str, fields: &[String]) {
+    let fields: Vec<String> = fields.iter().map(|field| format!("{field:>7}")).collect();
+    println!("  {name:<7}{}", fields.concat());
+}
