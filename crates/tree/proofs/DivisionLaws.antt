@@ -68,6 +68,10 @@ module _ (line : List ℕ) (known : Known) (c m e : ℕ) where
 abbrev pub BeforeBelow : List ℕ → Known → ℕ → ℕ → ℕ → ℕ → Type 0
 BeforeBelow line known c set m r = (x : ℕ) → Member r x ↔ ((x < m) × HasEnd line known c set x)
 
+-- no position leads into the empty set
+pub before-empty : (line : List ℕ) (known : Known) (c : ℕ) → Before line known c 0 0
+before-empty line known c x = (λ h. absurd (none-member x h), λ h. absurd (true≢false (sym (h .1 .3) ∙ leads-out line known c x (h .1 .0) 0 (ne-eqb (digit 0 (h .1 .0)) 1 (none-member (h .1 .0))))))
+
 module _ (line : List ℕ) (known : Known) (c set : ℕ) where
   pub before-none : BeforeBelow line known c set 0 0
   before-none x = (λ h. absurd (none-member x h), λ h. absurd (omega (arith, h .0)))

@@ -83,6 +83,9 @@ fn starts_before(symbol: usize, line: &[u8], depths: &[u16], h: u16, set: u64) -
     requires { ⌜ (length (now line) ≤ 63) × Fits (length (now line)) (length (now depths)) symbol ⌝ }
     ensures { λ r. ⌜ Before (now (line .entry)) (keptBelow (length (now (line .entry))) (now (depths .entry)) h) symbol set r ⌝ }
 {
+    if set == 0 {
+        return 0;
+    }
     let mut starts = 0u64;
     let mut m = 0;
     while m <= line.len() {
