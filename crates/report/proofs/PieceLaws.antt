@@ -182,3 +182,13 @@ yielded-within {all} {k} {row} y =
     let bytes = getD all k [] in
     let whole = ap length (y .holds) ∙ length-append bytes (drop (0 + length bytes) row) in
     omega (arith, whole, y .long)
+
+-- a piece is yielded in one way
+same-piece : {x y : Piece} → x .length ≡ y .length → x .more ≡ y .more → x ≡ y
+same-piece {x} {y} e f = ap (λ (n : ℕ). piece n (x .more)) e ∙ ap (λ (m : Bool). piece (y .length) m) f
+  where
+    piece : ℕ → Bool → Piece
+    piece n m = record { length = n; more = m }
+
+pub yielded-unique : {all : List (List ℕ)} {k : ℕ} {row a b : List ℕ} {x y : Piece} → Yielded all k row a x → Yielded all k row b y → (a ≡ b) × (x ≡ y)
+yielded-unique p q = (p .holds ∙ sym (q .holds), same-piece (p .long ∙ sym (q .long)) (p .more ∙ sym (q .more)))

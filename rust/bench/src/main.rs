@@ -146,8 +146,11 @@ fn print_growth(figures: &[Figure]) {
     println!("\n## Growth with the line: exponent from the shortest line to the longest\n");
     println!("| workload | n | library | plain ac | reference |\n|---|---|---|---|---|");
     for first in figures.iter().filter(|figure| figure.tokens <= 16) {
-        let Some(last) = figures.iter().rfind(|figure| figure.name == first.name) else {
-            continue;
+        let last = match figures.iter().rfind(|figure| figure.name == first.name) {
+            Some(last) => last,
+            None => {
+                continue;
+            }
         };
         let length = (last.tokens as f64 / first.tokens as f64).ln();
         let exponents: Vec<String> = last

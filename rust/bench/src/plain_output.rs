@@ -103,8 +103,11 @@ impl Filled<'_> {
             .enumerate()
             .filter(|(_, (left, _))| *left == category);
         for (rule, (_, symbols)) in of_category {
-            let Some(ends) = self.division(symbols, start, end, bound) else {
-                continue;
+            let ends = match self.division(symbols, start, end, bound) {
+                Some(ends) => ends,
+                None => {
+                    continue;
+                }
             };
             out.get_mut(at..at + 4)?
                 .copy_from_slice(&[1, rule as u8, start as u8, end as u8]);

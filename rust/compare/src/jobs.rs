@@ -156,9 +156,12 @@ fn mutate(random: &mut Random, bytes: &mut Vec<u8>) {
 /// A mutated job: its bytes as they stand, or one of its sections, whose count is then made right.
 pub fn mutated(random: &mut Random) -> Vec<u8> {
     let mut input = job(random);
-    let Ok(mut parts) = read_job(&input) else {
-        mutate(random, &mut input);
-        return input;
+    let mut parts = match read_job(&input) {
+        Ok(parts) => parts,
+        Err(_) => {
+            mutate(random, &mut input);
+            return input;
+        }
     };
     match random.below(8) {
         0..=1 => {

@@ -98,8 +98,9 @@ impl Run {
 
 /// Every question of a kept job's grammar and line, several times over with other memory; the job's own questions too.
 fn library_kept(kept: &Kept, seed: u64, tally: &mut Tally) -> Result<(), String> {
-    let Ok(parts) = spans::read_job(&kept.input) else {
-        return Ok(());
+    let parts = match spans::read_job(&kept.input) {
+        Ok(parts) => parts,
+        Err(_) => return Ok(()),
     };
     let judged = judge(&parts.grammar, &parts.line);
     let mut asker = Asker::new(
@@ -110,7 +111,8 @@ fn library_kept(kept: &Kept, seed: u64, tally: &mut Tally) -> Result<(), String>
         tally,
     );
     for numbers in &parts.questions {
-        plan::ask_span(&mut asker, numbers.map(usize::from).into())?;
+        let [category, start, end] = numbers.map(usize::from);
+        plan::ask_span(&mut asker, (category, start, end))?;
     }
     for _ in 0..3 {
         plan::ask_everything(&mut asker)?;

@@ -41,8 +41,11 @@ fn outside(random: &mut Random, first: usize) -> usize {
 
 /// Every question of an accepted line, with memory that suffices and with memory that does not; questions out of range.
 pub fn ask_everything(asker: &mut Asker) -> Result<(), String> {
-    let Ok(reference) = asker.judged else {
-        return ask_each_once(asker);
+    let reference = match asker.judged {
+        Ok(reference) => reference,
+        Err(_) => {
+            return ask_each_once(asker);
+        }
     };
     let work = work_rooms(asker, reference);
     asker.ask(Question::Chart, work)?;
@@ -95,16 +98,19 @@ pub fn ask_each_once(asker: &mut Asker) -> Result<(), String> {
 /// Both questions about one span, whose numbers may be out of range.
 pub fn ask_span(asker: &mut Asker, span: (usize, usize, usize)) -> Result<(), String> {
     let (category, start, end) = span;
-    let Ok(reference) = asker.judged else {
-        let rooms = any_rooms(&mut asker.random);
-        return asker.ask(
-            Question::Tree {
-                category,
-                start,
-                end,
-            },
-            rooms,
-        );
+    let reference = match asker.judged {
+        Ok(reference) => reference,
+        Err(_) => {
+            let rooms = any_rooms(&mut asker.random);
+            return asker.ask(
+                Question::Tree {
+                    category,
+                    start,
+                    end,
+                },
+                rooms,
+            );
+        }
     };
     let work = work_rooms(asker, reference);
     asker.ask(Question::Ends { category, start }, work)?;
