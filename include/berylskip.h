@@ -7,6 +7,7 @@
  *     number is 0; a caller without memory to lend passes the address of any object of that type.
  *   - All lent memory, and each number of the answer, has some value before the call, whichever.
  *   - Memory and numbers that may be written (a pointer without const) overlap no other argument.
+ *   - The thread that asks has 64 KiB of stack, or 1 MiB where it asks for a tree (docs/CONTRACTS.md, Stack).
  * Nothing else is needed: grammar, line and numbers may be anything, and are checked.
  *
  * Every function answers by its return value:

@@ -8,8 +8,8 @@
 mod clock;
 mod plain;
 mod plain_output;
-mod workloads;
 
+use bench::workloads::{self, Shown, Workload};
 use berylskip::Branch;
 use clock::medians;
 use compare::grammar::read;
@@ -17,7 +17,6 @@ use compare::reference::Reference;
 use compare::tree::Trees;
 use plain_output::Filled;
 use std::hint::black_box;
-use workloads::{Shown, Workload};
 
 const MOST_WORDS: usize = 32 * 64;
 const MOST_RECORDS: usize = 200_000;

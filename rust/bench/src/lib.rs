@@ -1,0 +1,3 @@
+//! What `bench` and `stack` share: the workloads.
+
+pub mod workloads;
