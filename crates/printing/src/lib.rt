@@ -11,6 +11,13 @@ pub fn piece_room() -> [u8; 475200]
     [0; 475200]
 }
 
+// Room for a job, and for one byte more, so that a longer one is seen to be.
+pub fn job_room() -> [u8; 4097]
+    ensures { λ r. ⌜ 4097 ≡ length r ⌝ }
+{
+    [0; 4097]
+}
+
 // Prints the pieces, one after the other, up to the last or to one that cannot be written.
 pub fn print(input: &[u8], out: &mut [u8])
     requires { ⌜ 475200 ≤ length (now out) ⌝ }

@@ -2,6 +2,7 @@
 ghost use Prim.Native.Nat.{_≤_, _<_};
 ghost use lib.ListN.{length};
 ghost use Rattle.vectors.specs.Onward.{Onward};
+use printing::job_room;
 use printing::piece_room;
 use printing::print;
 
@@ -122,7 +123,7 @@ fn run(text: &[u8], job: &mut [u8], out: &mut [u8])
 
 fn main() {
     let mut text = io::large_buffer();
-    let mut job = io::buffer();
+    let mut job = job_room();
     let mut out = piece_room();
     let length = io::read_full(0, &mut text);
     run(&text[..length], &mut job, &mut out);
