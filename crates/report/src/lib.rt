@@ -66,7 +66,7 @@ fn answer_piece(
     }
     if number == 1 {
         return Piece {
-            length: write_marked(g, s, line, out),
+            length: write_marked(g, line, out),
             more,
         };
     }

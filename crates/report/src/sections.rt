@@ -6,7 +6,7 @@ ghost use lib.ListN.{length};
 ghost use Rattle.grammar.specs.declared.reading.Reading.the-variants.{Accepted};
 ghost use Rattle.grammar.specs.Given.{grammarGiven};
 ghost use Rattle.lines.specs.Decimal.{Written};
-ghost use Rattle.report.specs.Checked.{checkedJob};
+ghost use Rattle.report.specs.Checked.{checkedJob, JobPasses};
 ghost use Rattle.report.specs.Printed.{refusedLine, roundsLine, factLines, marksLine, treeLines};
 use chart::ChartAnswer;
 use chart::work::prepare;
@@ -64,8 +64,8 @@ pub fn write_chart(g: &[u8], s: Sections, line: &[u8], out: &mut [u8]) -> usize
 }
 
 // Writes the line of the marks.
-pub fn write_marked(g: &[u8], s: Sections, line: &[u8], out: &mut [u8]) -> usize
-    requires { ⌜ (checkedJob (now g) (now line) ≡ Accepted s) × (475200 ≤ length (now out)) ⌝ }
+pub fn write_marked(g: &[u8], line: &[u8], out: &mut [u8]) -> usize
+    requires { ⌜ JobPasses (now g) (now line) × (475200 ≤ length (now out)) ⌝ }
     ensures { λ r. ⌜ Written (now (out .entry)) 0 (marksLine (grammarGiven (now (g .entry))) (now (line .entry))) (now (out .exit)) r ⌝ }
 {
     let mut words = [0; 512];
