@@ -51,3 +51,13 @@ pub fn medians(runs: usize, actions: &mut [&mut dyn FnMut()]) -> Vec<f64> {
         .map(|of_one| of_one[of_one.len() / 2])
         .collect()
 }
+
+/// The same value, of which the compiler knows nothing.
+pub fn unknown<T>(value: T) -> T {
+    // SAFETY: the value is read once, and what it was read from is forgotten.
+    unsafe {
+        let same = std::ptr::read_volatile(&value);
+        std::mem::forget(value);
+        same
+    }
+}

@@ -1,3 +1,4 @@
-//! What `bench` and `stack` share: the workloads.
+//! What `bench` and `stack` share: the clock and the workloads.
 
+pub mod clock;
 pub mod workloads;

@@ -1,22 +1,24 @@
 //! Figures: the library beside a plain Rust version of its method and beside the reference, in one run.
 //!
 //! bench [RUNS]
+//! bench --write FOLDER
 //!
 //! Prints markdown tables: microseconds of CPU time for a line (medians of RUNS interleaved runs), ratios, rounds and facts; growth
 //! with the line's length; tree and forest questions. All three must give the same chart and depths before they are timed.
+//! With --write it times nothing, and writes the workloads and the probes as text for other recognisers.
 
-mod clock;
 mod plain;
 mod plain_output;
+mod probes;
+mod text;
 
+use bench::clock::{medians, unknown};
 use bench::workloads::{self, Shown, Workload};
 use berylskip::Branch;
-use clock::medians;
 use compare::grammar::read;
 use compare::reference::Reference;
 use compare::tree::Trees;
 use plain_output::Filled;
-use std::hint::black_box;
 
 const MOST_WORDS: usize = 32 * 64;
 const MOST_RECORDS: usize = 200_000;
@@ -46,8 +48,8 @@ fn reference_of(grammar: &[u8], line: &[u8]) -> Reference {
     Reference::new(read(grammar).expect("a workload is accepted"), line)
 }
 
-/// All three agree on the line; answers rounds and facts.
-fn agree(workload: &Workload, line: &[u8]) -> (usize, usize) {
+/// All three agree on the line; answers rounds and facts, and the reference, which has the depths.
+fn agree(workload: &Workload, line: &[u8]) -> (usize, usize, Reference) {
     let (mut library, mut plain) = (Memory::new(), Memory::new());
     let answer = library.chart(&workload.grammar, line);
     assert_eq!(
@@ -74,7 +76,7 @@ fn agree(workload: &Workload, line: &[u8]) -> (usize, usize) {
         "{}",
         workload.name
     );
-    answer
+    (answer.0, answer.1, reference)
 }
 
 struct Figure {
@@ -84,7 +86,7 @@ struct Figure {
 }
 
 fn chart_figure(workload: &Workload, runs: usize) -> Figure {
-    let answers: Vec<(usize, usize)> = workload
+    let answers: Vec<(usize, usize, Reference)> = workload
         .lines
         .iter()
         .map(|line| agree(workload, line))
@@ -95,13 +97,13 @@ fn chart_figure(workload: &Workload, runs: usize) -> Figure {
     let (mut first, mut second) = (Memory::new(), Memory::new());
     let mut library = || {
         for line in lines {
-            black_box(first.chart(black_box(grammar), line));
+            unknown(first.chart(unknown(grammar), line));
         }
     };
     let mut plain = || {
         for line in lines {
-            black_box(plain::chart(
-                black_box(grammar),
+            unknown(plain::chart(
+                unknown(grammar),
                 line,
                 &mut second.words,
                 &mut second.depths,
@@ -110,7 +112,7 @@ fn chart_figure(workload: &Workload, runs: usize) -> Figure {
     };
     let mut reference = || {
         for line in lines {
-            black_box(reference_of(black_box(grammar), line).facts);
+            unknown(reference_of(unknown(grammar), line).facts);
         }
     };
     let times = medians(runs, &mut [&mut library, &mut plain, &mut reference]);
@@ -175,7 +177,7 @@ fn print_tree(case: &Shown, runs: usize) {
     let reference = reference_of(&case.grammar, &line);
     let ask = |memory: &mut Memory, out: &mut [u8]| {
         berylskip::tree(
-            black_box(&case.grammar),
+            unknown(&case.grammar),
             &line,
             0,
             0,
@@ -209,16 +211,16 @@ fn print_tree(case: &Shown, runs: usize) {
         case.name
     );
     let mut tree = || {
-        black_box(ask(&mut first, &mut out)).ok();
+        unknown(ask(&mut first, &mut out)).ok();
     };
     let mut chart = || {
-        black_box(second.chart(black_box(&case.grammar), &line));
+        unknown(second.chart(unknown(&case.grammar), &line));
     };
     let mut plain = || {
-        black_box(filled.tree(0, 0, case.tokens, &mut beside, 0));
+        unknown(filled.tree(0, 0, case.tokens, &mut beside, 0));
     };
     let mut other = || {
-        black_box(Trees::new(&reference).nodes(0, 0, case.tokens, nodes));
+        unknown(Trees::new(&reference).nodes(0, 0, case.tokens, nodes));
     };
     let times = medians(runs, &mut [&mut tree, &mut chart, &mut plain, &mut other]);
     let alone = times[0] - times[1];
@@ -245,7 +247,7 @@ fn print_forest(workload: &Workload, runs: usize) {
     );
     let mut ask = |rows: &mut [Branch]| {
         berylskip::forest(
-            black_box(&workload.grammar),
+            unknown(&workload.grammar),
             line,
             &mut first.words,
             &mut first.depths,
@@ -266,13 +268,13 @@ fn print_forest(workload: &Workload, runs: usize) {
     assert_eq!(filled.forest(&mut beside), records, "{}", workload.name);
     assert!(rows == beside, "{}", workload.name);
     let mut forest = || {
-        black_box(ask(&mut rows)).ok();
+        unknown(ask(&mut rows)).ok();
     };
     let mut chart = || {
-        black_box(second.chart(black_box(&workload.grammar), line));
+        unknown(second.chart(unknown(&workload.grammar), line));
     };
     let mut plain = || {
-        black_box(filled.forest(&mut beside));
+        unknown(filled.forest(&mut beside));
     };
     let times = medians(runs, &mut [&mut forest, &mut chart, &mut plain]);
     let alone = times[0] - times[1];
@@ -290,8 +292,12 @@ fn print_forest(workload: &Workload, runs: usize) {
 }
 
 fn main() {
-    let runs = match std::env::args().nth(1) {
+    let mut words = std::env::args().skip(1);
+    let runs = match words.next() {
         None => USUAL_RUNS,
+        Some(word) if word == "--write" => {
+            return text::write_all(&words.next().expect("--write names a folder"));
+        }
         Some(word) => word.parse().expect("the number of runs is a number"),
     };
     println!("CPU microseconds for a line; medians of {runs} interleaved runs.\n\n## Chart\n");
@@ -314,7 +320,7 @@ fn main() {
     println!("|---|---|---|---|---|---|---|---|---|");
     let longest = workloads
         .iter()
-        .filter(|workload| workload.tokens == 63 && !workload.name.starts_with("chain, 97"));
+        .filter(|workload| workload.tokens == 63 && !workload.name.starts_with("chain, 96"));
     longest.for_each(|workload| print_forest(workload, runs));
     let worst = figures
         .iter()

@@ -1,7 +1,7 @@
 //! Runs an action on a stack of painted memory, and finds how far the paint is gone.
 
+use bench::clock::unknown;
 use std::ffi::c_void;
-use std::hint::black_box;
 use std::ptr::null_mut;
 
 const SIZE: usize = 8 << 20;
@@ -33,7 +33,7 @@ extern "C" fn start(argument: *mut c_void) -> *mut c_void {
     // SAFETY: the argument is the call in `stack_of`, which waits for this thread before it looks at the call again.
     let call = unsafe { &mut *argument.cast::<Call>() };
     let here = 0u8;
-    call.frame = black_box(&here) as *const u8 as usize;
+    call.frame = unknown(&here) as *const u8 as usize;
     (call.action)();
     null_mut()
 }
@@ -54,9 +54,9 @@ pub fn stack_of(action: &mut dyn FnMut()) -> usize {
         assert_eq!(pthread_join(thread, null_mut()), 0);
         assert_eq!(pthread_attr_destroy(&mut attributes), 0);
     }
-    let kept = black_box(&memory)
-        .as_flattened()
+    let kept = unknown(&memory)
         .iter()
+        .flatten()
         .take_while(|&&byte| byte == PAINT)
         .count();
     assert!(kept > 0, "the stack is large enough");
