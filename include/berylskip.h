@@ -1,10 +1,12 @@
-/* Berylskip for C: the questions about a context-free grammar and one line of token classes.
+/* Berylskip for C and C++: the questions about a context-free grammar and one line of token classes.
  *
- * Link target/staticlib/libexports.a, which `rt staticlib exports` writes, for x86-64 Linux.
+ * Link libberylskip.a, for x86-64 Linux: `tools/install PREFIX` puts it, this header and a pkg-config file below a prefix, and
+ * `pkg-config --cflags --libs berylskip` then says the rest.
  *
  * Every function needs, and a caller must see to it:
- *   - Memory is lent as a pointer and the number of elements behind it. The pointer is aligned and not null, also where the
- *     number is 0; a caller without memory to lend passes the address of any object of that type.
+ *   - Memory is lent as a pointer and the number of elements behind it. The pointer is aligned and not null; where the number
+ *     is 0 it is not looked at, and may be anything, null too.
+ *   - The pointers to the numbers of the answer are aligned and not null.
  *   - All lent memory, and each number of the answer, has some value before the call, whichever.
  *   - Memory and numbers that may be written (a pointer without const) overlap no other argument.
  *   - The thread that asks has 64 KiB of stack, or 1 MiB where it asks for a tree (docs/CONTRACTS.md, Stack).
@@ -89,40 +91,112 @@ struct berylskip_branch {
     uint8_t end;
 };
 
+/* The archive's own functions are those below, but that no pointer may be null even where the number of elements is 0: the functions
+ * below put the address of an object of their own in its place. */
+#if defined(__GNUC__)
+#define BERYLSKIP_NONNULL __attribute__((nonnull))
+#else
+#define BERYLSKIP_NONNULL
+#endif
+
+uint8_t berylskip_chart_nonnull(const uint8_t *grammar, size_t grammar_length,
+                                const uint8_t *line, size_t line_length,
+                                uint64_t *words, size_t words_length,
+                                uint16_t *depths, size_t depths_length,
+                                size_t *rounds, size_t *facts, size_t *place) BERYLSKIP_NONNULL;
+uint8_t berylskip_ends_nonnull(const uint8_t *grammar, size_t grammar_length,
+                               const uint8_t *line, size_t line_length,
+                               size_t category, size_t start,
+                               uint64_t *words, size_t words_length,
+                               uint16_t *depths, size_t depths_length,
+                               uint64_t *row, uint32_t *ends, uint32_t *smallest, size_t *place) BERYLSKIP_NONNULL;
+uint8_t berylskip_marks_nonnull(const uint8_t *grammar, size_t grammar_length,
+                                const uint8_t *line, size_t line_length,
+                                uint64_t *words, size_t words_length,
+                                uint16_t *depths, size_t depths_length,
+                                uint8_t *marks, size_t marks_length,
+                                size_t *secret, size_t *place) BERYLSKIP_NONNULL;
+uint8_t berylskip_tree_nonnull(const uint8_t *grammar, size_t grammar_length,
+                               const uint8_t *line, size_t line_length,
+                               size_t category, size_t start, size_t end,
+                               uint64_t *words, size_t words_length,
+                               uint16_t *depths, size_t depths_length,
+                               uint8_t *out, size_t out_length,
+                               size_t *nodes, size_t *place) BERYLSKIP_NONNULL;
+uint8_t berylskip_forest_nonnull(const uint8_t *grammar, size_t grammar_length,
+                                 const uint8_t *line, size_t line_length,
+                                 uint64_t *words, size_t words_length,
+                                 uint16_t *depths, size_t depths_length,
+                                 struct berylskip_branch *rows, size_t rows_length,
+                                 size_t *records, size_t *place) BERYLSKIP_NONNULL;
+
+#define BERYLSKIP_LENT(pointer, length, none) ((length) != 0 ? (pointer) : (none)), (length)
+
 /* Chart: every fact of every category, and its depth.
  * Needs BERYLSKIP_WORDS words and BERYLSKIP_DEPTHS depths, else 9.
  * Answers the greatest depth (*rounds, 0 without facts) and the number of facts (*facts). Word BERYLSKIP_WORD_AT (A, i) then has
  * bit j set exactly for fact (A, i, j); the number at BERYLSKIP_DEPTH_AT (A, i, j) is its depth, 0 where there is no fact.
  * Turned down by 1 to 7 and 9; all lent memory is then as before. */
-uint8_t berylskip_chart(const uint8_t *grammar, size_t grammar_length,
-                        const uint8_t *line, size_t line_length,
-                        uint64_t *words, size_t words_length,
-                        uint16_t *depths, size_t depths_length,
-                        size_t *rounds, size_t *facts, size_t *place);
+static inline uint8_t berylskip_chart(const uint8_t *grammar, size_t grammar_length,
+                                      const uint8_t *line, size_t line_length,
+                                      uint64_t *words, size_t words_length,
+                                      uint16_t *depths, size_t depths_length,
+                                      size_t *rounds, size_t *facts, size_t *place)
+{
+    uint8_t byte = 0;
+    uint64_t word = 0;
+    uint16_t depth = 0;
+
+    return berylskip_chart_nonnull(BERYLSKIP_LENT(grammar, grammar_length, &byte),
+                                   BERYLSKIP_LENT(line, line_length, &byte),
+                                   BERYLSKIP_LENT(words, words_length, &word),
+                                   BERYLSKIP_LENT(depths, depths_length, &depth), rounds, facts, place);
+}
 
 /* Ends: the ends of the category's facts from a start.
  * Needs the work memory of chart, else 9; a category of the grammar and a start up to the number of tokens, else 8.
  * Answers the word of (category, start) (*row), how many ends it shows (*ends), and the smallest (*smallest, BERYLSKIP_NO_END
  * for none); the work memory is filled as by chart.
  * Turned down by 1 to 9; all lent memory is then as before. */
-uint8_t berylskip_ends(const uint8_t *grammar, size_t grammar_length,
-                       const uint8_t *line, size_t line_length,
-                       size_t category, size_t start,
-                       uint64_t *words, size_t words_length,
-                       uint16_t *depths, size_t depths_length,
-                       uint64_t *row, uint32_t *ends, uint32_t *smallest, size_t *place);
+static inline uint8_t berylskip_ends(const uint8_t *grammar, size_t grammar_length,
+                                     const uint8_t *line, size_t line_length,
+                                     size_t category, size_t start,
+                                     uint64_t *words, size_t words_length,
+                                     uint16_t *depths, size_t depths_length,
+                                     uint64_t *row, uint32_t *ends, uint32_t *smallest, size_t *place)
+{
+    uint8_t byte = 0;
+    uint64_t word = 0;
+    uint16_t depth = 0;
+
+    return berylskip_ends_nonnull(BERYLSKIP_LENT(grammar, grammar_length, &byte),
+                                  BERYLSKIP_LENT(line, line_length, &byte), category, start,
+                                  BERYLSKIP_LENT(words, words_length, &word),
+                                  BERYLSKIP_LENT(depths, depths_length, &depth), row, ends, smallest, place);
+}
 
 /* Marks: which tokens are secret.
  * Needs the work memory of chart, else 9, and BERYLSKIP_MARKS bytes for the marks, else 11.
  * Answers a byte for each token, 1 secret and 0 not, and how many are 1 (*secret); the work memory is filled as by chart.
  * Turned down by 1 to 7 and 9, after which all lent memory is as before, and by 11, with the number of bytes needed as its
  * place, after which the work memory is filled and the marks are as before. */
-uint8_t berylskip_marks(const uint8_t *grammar, size_t grammar_length,
-                        const uint8_t *line, size_t line_length,
-                        uint64_t *words, size_t words_length,
-                        uint16_t *depths, size_t depths_length,
-                        uint8_t *marks, size_t marks_length,
-                        size_t *secret, size_t *place);
+static inline uint8_t berylskip_marks(const uint8_t *grammar, size_t grammar_length,
+                                      const uint8_t *line, size_t line_length,
+                                      uint64_t *words, size_t words_length,
+                                      uint16_t *depths, size_t depths_length,
+                                      uint8_t *marks, size_t marks_length,
+                                      size_t *secret, size_t *place)
+{
+    uint8_t byte = 0;
+    uint64_t word = 0;
+    uint16_t depth = 0;
+
+    return berylskip_marks_nonnull(BERYLSKIP_LENT(grammar, grammar_length, &byte),
+                                   BERYLSKIP_LENT(line, line_length, &byte),
+                                   BERYLSKIP_LENT(words, words_length, &word),
+                                   BERYLSKIP_LENT(depths, depths_length, &depth),
+                                   BERYLSKIP_LENT(marks, marks_length, &byte), secret, place);
+}
 
 /* Tree: one tree of the fact (category, start, end), of least height.
  * Needs the work memory of chart, else 9; a span of the line, else 8; BERYLSKIP_NODE_BYTES for each node, else 11. Small
@@ -130,13 +204,24 @@ uint8_t berylskip_marks(const uint8_t *grammar, size_t grammar_length,
  * Answers the nodes in preorder, children left to right, and how many they are (*nodes); the work memory is filled as by chart.
  * Turned down by 1 to 9, after which all lent memory is as before, by 10 where (category, start, end) is no fact, and by 11,
  * both with place 0, after which the work memory is filled and the tree's bytes are as before. */
-uint8_t berylskip_tree(const uint8_t *grammar, size_t grammar_length,
-                       const uint8_t *line, size_t line_length,
-                       size_t category, size_t start, size_t end,
-                       uint64_t *words, size_t words_length,
-                       uint16_t *depths, size_t depths_length,
-                       uint8_t *out, size_t out_length,
-                       size_t *nodes, size_t *place);
+static inline uint8_t berylskip_tree(const uint8_t *grammar, size_t grammar_length,
+                                     const uint8_t *line, size_t line_length,
+                                     size_t category, size_t start, size_t end,
+                                     uint64_t *words, size_t words_length,
+                                     uint16_t *depths, size_t depths_length,
+                                     uint8_t *out, size_t out_length,
+                                     size_t *nodes, size_t *place)
+{
+    uint8_t byte = 0;
+    uint64_t word = 0;
+    uint16_t depth = 0;
+
+    return berylskip_tree_nonnull(BERYLSKIP_LENT(grammar, grammar_length, &byte),
+                                  BERYLSKIP_LENT(line, line_length, &byte), category, start, end,
+                                  BERYLSKIP_LENT(words, words_length, &word),
+                                  BERYLSKIP_LENT(depths, depths_length, &depth),
+                                  BERYLSKIP_LENT(out, out_length, &byte), nodes, place);
+}
 
 /* Forest: a record for each way in which the first symbols of a rule derive a span.
  * Needs the work memory of chart, else 9, and room for every record, else 11; lend room for 0 records to learn how many there are.
@@ -144,12 +229,27 @@ uint8_t berylskip_tree(const uint8_t *grammar, size_t grammar_length,
  * memory is filled as by chart.
  * Turned down by 1 to 7 and 9, after which all lent memory is as before, and by 11, with the number of records needed as its
  * place, after which the work memory is filled and the records are as before. */
-uint8_t berylskip_forest(const uint8_t *grammar, size_t grammar_length,
-                         const uint8_t *line, size_t line_length,
-                         uint64_t *words, size_t words_length,
-                         uint16_t *depths, size_t depths_length,
-                         struct berylskip_branch *rows, size_t rows_length,
-                         size_t *records, size_t *place);
+static inline uint8_t berylskip_forest(const uint8_t *grammar, size_t grammar_length,
+                                       const uint8_t *line, size_t line_length,
+                                       uint64_t *words, size_t words_length,
+                                       uint16_t *depths, size_t depths_length,
+                                       struct berylskip_branch *rows, size_t rows_length,
+                                       size_t *records, size_t *place)
+{
+    uint8_t byte = 0;
+    uint64_t word = 0;
+    uint16_t depth = 0;
+    struct berylskip_branch branch = {0, 0, 0, 0, 0};
+
+    return berylskip_forest_nonnull(BERYLSKIP_LENT(grammar, grammar_length, &byte),
+                                    BERYLSKIP_LENT(line, line_length, &byte),
+                                    BERYLSKIP_LENT(words, words_length, &word),
+                                    BERYLSKIP_LENT(depths, depths_length, &depth),
+                                    BERYLSKIP_LENT(rows, rows_length, &branch), records, place);
+}
+
+#undef BERYLSKIP_LENT
+#undef BERYLSKIP_NONNULL
 
 #ifdef __cplusplus
 }

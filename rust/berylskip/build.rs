@@ -1,4 +1,4 @@
-// Links libexports.a, from BERYLSKIP_LIB_DIR or from where `rt staticlib exports` writes it.
+// Links libberylskip.a, from BERYLSKIP_LIB_DIR or from where `rt staticlib berylskip` writes it.
 use std::env;
 use std::path::PathBuf;
 
@@ -12,8 +12,8 @@ fn main() {
     println!("cargo:rerun-if-env-changed=BERYLSKIP_LIB_DIR");
     println!(
         "cargo:rerun-if-changed={}",
-        folder.join("libexports.a").display()
+        folder.join("libberylskip.a").display()
     );
     println!("cargo:rustc-link-search=native={}", folder.display());
-    println!("cargo:rustc-link-lib=static=exports");
+    println!("cargo:rustc-link-lib=static=berylskip");
 }

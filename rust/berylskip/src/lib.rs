@@ -70,7 +70,7 @@ pub fn chart(
     let (mut rounds, mut facts, mut place) = (0, 0, 0);
     // SAFETY: each pointer and length is of a slice that is borrowed for the call, and the function's contract holds for all of them.
     let number = unsafe {
-        raw::berylskip_chart(
+        raw::berylskip_chart_nonnull(
             g.as_ptr(),
             g.len(),
             line.as_ptr(),
@@ -101,7 +101,7 @@ pub fn ends(
     let (mut row, mut ends, mut smallest, mut place) = (0, 0, 0, 0);
     // SAFETY: as in `chart`.
     let number = unsafe {
-        raw::berylskip_ends(
+        raw::berylskip_ends_nonnull(
             g.as_ptr(),
             g.len(),
             line.as_ptr(),
@@ -142,7 +142,7 @@ pub fn marks(
     let (mut secret, mut place) = (0, 0);
     // SAFETY: as in `chart`.
     let number = unsafe {
-        raw::berylskip_marks(
+        raw::berylskip_marks_nonnull(
             g.as_ptr(),
             g.len(),
             line.as_ptr(),
@@ -178,7 +178,7 @@ pub fn tree(
     let (mut nodes, mut place) = (0, 0);
     // SAFETY: as in `chart`.
     let number = unsafe {
-        raw::berylskip_tree(
+        raw::berylskip_tree_nonnull(
             g.as_ptr(),
             g.len(),
             line.as_ptr(),
@@ -213,7 +213,7 @@ pub fn forest(
     let (mut records, mut place) = (0, 0);
     // SAFETY: as in `chart`; a `Branch` is five bytes in this order on both sides.
     let number = unsafe {
-        raw::berylskip_forest(
+        raw::berylskip_forest_nonnull(
             g.as_ptr(),
             g.len(),
             line.as_ptr(),

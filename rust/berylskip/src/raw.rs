@@ -1,8 +1,8 @@
-//! The exported functions as they are linked: a slice is a pointer and a length. See include/berylskip.h.
+//! The exported functions as they are linked: a slice is a pointer and a length. No pointer is null: see include/berylskip.h.
 use crate::Branch;
 
 extern "C" {
-    pub fn berylskip_chart(
+    pub fn berylskip_chart_nonnull(
         grammar: *const u8,
         grammar_length: usize,
         line: *const u8,
@@ -16,7 +16,7 @@ extern "C" {
         place: &mut usize,
     ) -> u8;
 
-    pub fn berylskip_ends(
+    pub fn berylskip_ends_nonnull(
         grammar: *const u8,
         grammar_length: usize,
         line: *const u8,
@@ -33,7 +33,7 @@ extern "C" {
         place: &mut usize,
     ) -> u8;
 
-    pub fn berylskip_marks(
+    pub fn berylskip_marks_nonnull(
         grammar: *const u8,
         grammar_length: usize,
         line: *const u8,
@@ -48,7 +48,7 @@ extern "C" {
         place: &mut usize,
     ) -> u8;
 
-    pub fn berylskip_tree(
+    pub fn berylskip_tree_nonnull(
         grammar: *const u8,
         grammar_length: usize,
         line: *const u8,
@@ -66,7 +66,7 @@ extern "C" {
         place: &mut usize,
     ) -> u8;
 
-    pub fn berylskip_forest(
+    pub fn berylskip_forest_nonnull(
         grammar: *const u8,
         grammar_length: usize,
         line: *const u8,

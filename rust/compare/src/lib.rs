@@ -12,6 +12,7 @@ pub mod grammar; // grammar bytes: read, refused, written
 pub mod guarded; // lent memory with guard values before and after
 pub mod job; // jobs in decimal, and the kept cases
 pub mod jobs; // random jobs for the program
+pub mod machine; // what runs the program
 pub mod plan; // which calls a case makes, with which memory
 pub mod program; // runs the program `spans`
 pub mod questions; // the whole outcome of each question

@@ -1,17 +1,19 @@
 //! Runs the program `spans` on an input, with a time limit.
 
+use crate::machine;
 use std::io::{Read, Write};
 use std::path::{Path, PathBuf};
-use std::process::{Child, Command, Stdio};
+use std::process::{Child, Stdio};
 use std::sync::{Arc, Mutex};
 use std::time::{Duration, Instant};
 
-const LIMIT: Duration = Duration::from_secs(10);
+const LIMIT_SECONDS: u64 = 10;
 
 type Watched = Arc<Mutex<Option<(Child, Instant)>>>;
 
 pub struct Program {
     path: PathBuf,
+    limit: Duration,
     running: Watched,
 }
 
@@ -20,11 +22,12 @@ impl Program {
     pub fn new(path: &Path) -> Program {
         let running: Watched = Arc::new(Mutex::new(None));
         let watched = Arc::clone(&running);
+        let limit = machine::limit(LIMIT_SECONDS);
         std::thread::spawn(move || loop {
             std::thread::sleep(Duration::from_millis(200));
             if let Ok(mut running) = watched.lock() {
                 if let Some((child, since)) = running.as_mut() {
-                    if since.elapsed() > LIMIT {
+                    if since.elapsed() > limit {
                         let _ = child.kill();
                     }
                 }
@@ -32,13 +35,14 @@ impl Program {
         });
         Program {
             path: path.to_path_buf(),
+            limit,
             running,
         }
     }
 
     /// What the program prints for the input. It must end well, in time, and write nothing to its error output.
     pub fn run(&self, input: &[u8]) -> Result<Vec<u8>, String> {
-        let mut command = Command::new(&self.path);
+        let mut command = machine::command(&self.path);
         command
             .stdin(Stdio::piped())
             .stdout(Stdio::piped())
@@ -60,8 +64,8 @@ impl Program {
         read_all(stdout, &mut printed)?;
         read_all(stderr, &mut complaint)?;
         let status = self.wait()?;
-        if since.elapsed() > LIMIT {
-            return Err(format!("it ran longer than {} s", LIMIT.as_secs()));
+        if since.elapsed() > self.limit {
+            return Err(format!("it ran longer than {} s", self.limit.as_secs()));
         }
         if !status.success() {
             return Err(format!("it ended with {status}"));

@@ -1,5 +1,6 @@
 //! Says which case it was when the library does not come back: it crashed, or it does not end.
 
+use crate::machine;
 use std::sync::atomic::{AtomicU64, Ordering};
 use std::time::Duration;
 
@@ -46,7 +47,8 @@ pub fn start(seed: u64) {
         // SAFETY: the handler prints and ends the process; it does not return to what crashed.
         unsafe { signal(number, crashed) };
     }
-    std::thread::spawn(|| {
+    let limit = machine::limit(LIMIT_SECONDS).as_secs();
+    std::thread::spawn(move || {
         let mut seconds = 0;
         let mut last = CASE.load(Ordering::Relaxed);
         loop {
@@ -58,7 +60,7 @@ pub fn start(seed: u64) {
                 0
             };
             last = now;
-            if seconds == LIMIT_SECONDS {
+            if seconds == limit {
                 stop("it does not end");
             }
         }

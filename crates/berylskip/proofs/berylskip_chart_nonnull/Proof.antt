@@ -1,10 +1,10 @@
--- `exports::berylskip_chart` meets its contract: the question's answer is handed over, by its values or as a refusal.
+-- `berylskip::berylskip_chart_nonnull` meets its contract: the question's answer is handed over, by its values or as a refusal.
 use mathlib.Core.Path.{ap}
 use borrow.Author.Needs.{needs}
 use Rattle.chart.specs.Told.{chartTold}
-use Rattle.exports.proofs.Handing.{hands-values, hands-refusal}
-use Rattle.exports.proofs.berylskip_chart.Statement.{statement}
-use Rattle.exports.proofs.berylskip_chart.Tie as tie
+use Rattle.berylskip.proofs.Handing.{hands-values, hands-refusal}
+use Rattle.berylskip.proofs.berylskip_chart_nonnull.Statement.{statement}
+use Rattle.berylskip.proofs.berylskip_chart_nonnull.Tie as tie
 
 chart-requires : tie.Need-chart-requires
 chart-requires c κs = search needs
@@ -42,8 +42,8 @@ returns-2 c =
     let asked = matched .before .before .before .before .before .before in
     hands-values (asked .chart .result) (asked .chart .ensures) _ (ap chartTold (matched .r .given .1))
 
-pub berylskip-chart-spec : {M : Type 1} → statement M
-berylskip-chart-spec =
+pub berylskip-chart-nonnull-spec : {M : Type 1} → statement M
+berylskip-chart-nonnull-spec =
     tie.close
     (tie.spec
     chart-requires

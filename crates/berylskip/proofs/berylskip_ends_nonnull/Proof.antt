@@ -1,10 +1,10 @@
--- `exports::berylskip_ends` meets its contract: the question's answer is handed over, by its values or as a refusal.
+-- `berylskip::berylskip_ends_nonnull` meets its contract: the question's answer is handed over, by its values or as a refusal.
 use mathlib.Core.Path.{ap}
 use borrow.Author.Needs.{needs}
 use Rattle.chart.specs.Told.{endsTold}
-use Rattle.exports.proofs.Handing.{hands-values, hands-refusal}
-use Rattle.exports.proofs.berylskip_ends.Statement.{statement}
-use Rattle.exports.proofs.berylskip_ends.Tie as tie
+use Rattle.berylskip.proofs.Handing.{hands-values, hands-refusal}
+use Rattle.berylskip.proofs.berylskip_ends_nonnull.Statement.{statement}
+use Rattle.berylskip.proofs.berylskip_ends_nonnull.Tie as tie
 
 ends-requires : tie.Need-ends-requires
 ends-requires c κs = search needs
@@ -42,8 +42,8 @@ returns-2 c =
     let asked = matched .before .before .before .before .before .before in
     hands-values (asked .ends .result) (asked .ends .ensures) _ (ap endsTold (matched .w .given .1))
 
-pub berylskip-ends-spec : {M : Type 1} → statement M
-berylskip-ends-spec =
+pub berylskip-ends-nonnull-spec : {M : Type 1} → statement M
+berylskip-ends-nonnull-spec =
     tie.close
     (tie.spec
     ends-requires

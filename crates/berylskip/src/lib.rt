@@ -3,8 +3,8 @@ ghost use mathlib.Core.Path.{_≡_};
 ghost use mathlib.Core.List.{_∷_, []};
 ghost use Rattle.refusals.specs.Row.{rowOf};
 ghost use Rattle.forest.specs.Told.{forestTold};
-ghost use Rattle.exports.specs.Exported.{numbers, handed};
-ghost use Rattle.exports.specs.Questions.{ChartExported, EndsExported, MarksExported, TreeExported, ForestExported};
+ghost use Rattle.berylskip.specs.Exported.{numbers, handed};
+ghost use Rattle.berylskip.specs.Questions.{ChartExported, EndsExported, MarksExported, TreeExported, ForestExported};
 use chart::ChartAnswer;
 use chart::EndsAnswer;
 use chart::chart;
@@ -28,7 +28,7 @@ fn refuse(refusal: Refusal, place: &mut usize) -> u8
 
 // Chart: rounds, and how many facts there are.
 #[no_mangle]
-pub extern "C" fn berylskip_chart(
+pub extern "C" fn berylskip_chart_nonnull(
     g: &[u8],
     line: &[u8],
     words: &mut [u64],
@@ -54,7 +54,7 @@ pub extern "C" fn berylskip_chart(
 
 // Ends of (A, i): the row, how many ends it shows, and the smallest, 64 for none.
 #[no_mangle]
-pub extern "C" fn berylskip_ends(
+pub extern "C" fn berylskip_ends_nonnull(
     g: &[u8],
     line: &[u8],
     category: usize,
@@ -85,7 +85,7 @@ pub extern "C" fn berylskip_ends(
 
 // Marks: a byte for each token, and how many tokens are secret.
 #[no_mangle]
-pub extern "C" fn berylskip_marks(
+pub extern "C" fn berylskip_marks_nonnull(
     g: &[u8],
     line: &[u8],
     words: &mut [u64],
@@ -107,7 +107,7 @@ pub extern "C" fn berylskip_marks(
 
 // Tree of (A, i, j): four bytes for each node, and how many nodes there are.
 #[no_mangle]
-pub extern "C" fn berylskip_tree(
+pub extern "C" fn berylskip_tree_nonnull(
     g: &[u8],
     line: &[u8],
     category: usize,
@@ -145,7 +145,7 @@ fn hand_records(answer: ForestAnswer, records: &mut usize, place: &mut usize) ->
 
 // Forest: a record for each way in which a prefix of a rule derives, and how many records there are.
 #[no_mangle]
-pub extern "C" fn berylskip_forest(
+pub extern "C" fn berylskip_forest_nonnull(
     g: &[u8],
     line: &[u8],
     words: &mut [u64],

@@ -5,7 +5,7 @@ use mathlib.Core.List.{List}
 use Rattle.refusals.specs.declared.Refusal.{Refusal}
 use Rattle.refusals.specs.Row.{rowOf}
 use Rattle.refusals.specs.Told.{Told, answered, refused}
-use Rattle.exports.specs.Exported.{numbers, handed, Exported}
+use Rattle.berylskip.specs.Exported.{numbers, handed, Exported}
 
 module _ {told : Told} (values : List ℕ) (place : ℕ) where
   pub values-handed : (found : List ℕ) → told ≡ answered found → handed told values place ≡ numbers 0 found place

@@ -1,12 +1,12 @@
--- `exports::hand_records` meets its contract: the answer is handed over, by its count or as a refusal.
+-- `berylskip::hand_records` meets its contract: the answer is handed over, by its count or as a refusal.
 use mathlib.Core.Path.{ap}
 use mathlib.Core.List.{[], _∷_}
 use borrow.Author.Needs.{needs}
 use denote.Ref.{now}
 use Rattle.forest.specs.Told.{forestTold}
-use Rattle.exports.proofs.Handing.{values-handed, refusal-handed}
-use Rattle.exports.proofs.hand_records.Statement.{statement}
-use Rattle.exports.proofs.hand_records.Tie as tie
+use Rattle.berylskip.proofs.Handing.{values-handed, refusal-handed}
+use Rattle.berylskip.proofs.hand_records.Statement.{statement}
+use Rattle.berylskip.proofs.hand_records.Tie as tie
 
 enum-known-answer : tie.Need-enum-known-answer
 enum-known-answer c = search needs

@@ -1,4 +1,4 @@
--- `exports::berylskip_forest` meets its contract: a walk of its MIR. The words, the depths and the rows are given to `forest` for good, the two numbers to `hand_records`; what is lent by `&` is copied.
+-- `berylskip::berylskip_forest_nonnull` meets its contract: a walk of its MIR. The words, the depths and the rows are given to `forest` for good, the two numbers to `hand_records`; what is lent by `&` is copied.
 -- All that the proof knows of `forest` and `hand_records` is that each meets its contract.
 use mathlib.Core.Path.{_≡_, refl, ap, subst}
 use Prim.Native.Nat.{ℕ, _<_, _^_}
@@ -49,15 +49,15 @@ use Rattle.forest.proofs.forest as forest
 use Rattle.forest.proofs.forest.Symbol as forest-def
 use Rattle.forest.proofs.forest.Symbol.{name as #forest·forest}
 use Rattle.forest.proofs.forest.Met as forest-thm
-use Rattle.exports.specs.Exported.{numbers, handed}
-use Rattle.exports.proofs.hand_records as hand
-use Rattle.exports.proofs.hand_records.Symbol as hand-def
-use Rattle.exports.proofs.hand_records.Symbol.{name as #exports·hand-records}
-use Rattle.exports.proofs.hand_records.Met as hand-thm
-use Rattle.exports.proofs.berylskip_forest.Key.{name as #exports·berylskip-forest}
-use Rattle.exports.proofs.berylskip_forest as f
-use Rattle.exports.proofs.berylskip_forest.Statement as stated
-use Rattle.exports.proofs.berylskip_forest.Code as code
+use Rattle.berylskip.specs.Exported.{numbers, handed}
+use Rattle.berylskip.proofs.hand_records as hand
+use Rattle.berylskip.proofs.hand_records.Symbol as hand-def
+use Rattle.berylskip.proofs.hand_records.Symbol.{name as #berylskip·hand-records}
+use Rattle.berylskip.proofs.hand_records.Met as hand-thm
+use Rattle.berylskip.proofs.berylskip_forest_nonnull.Key.{name as #berylskip·berylskip-forest-nonnull}
+use Rattle.berylskip.proofs.berylskip_forest_nonnull as f
+use Rattle.berylskip.proofs.berylskip_forest_nonnull.Statement as stated
+use Rattle.berylskip.proofs.berylskip_forest_nonnull.Code as code
 
 abbrev R : RattleType
 R = T.the-row
@@ -159,7 +159,7 @@ module _ {M : Type 1} (𝓤 : URA M) (H : Heap 𝓤) (A : Atoms 𝓤) (W : Given
       says ! (record { answer = p; outcome = found; hands = told }) $
       nothing ! $ move ! (7 ∷ 0 ∷ []) $ join ! $ move ! (6 ∷ 0 ∷ []) $ join ! $ move ! (5 ∷ 0 ∷ []) $ join ! $ move ! (4 ∷ 0 ∷ []) $ join ! $ move ! (3 ∷ 0 ∷ []) $ join ! $ move ! (2 ∷ 0 ∷ []) $ join ! $ move ! (1 ∷ 0 ∷ []) $ join ! $ move ! (0 ∷ []) $ frame ! $ nothing ! $ move ! (7 ∷ 0 ∷ []) $ fjoin ! $ move ! (6 ∷ 0 ∷ []) $ fjoin ! $ move ! (5 ∷ 0 ∷ []) $ fjoin ! $ move ! (4 ∷ 0 ∷ []) $ fjoin ! $ move ! (3 ∷ 0 ∷ []) $ fjoin ! $ move ! (2 ∷ 0 ∷ []) $ fjoin ! $ move ! (1 ∷ 0 ∷ []) $ fjoin ! $ owned ! u8 (Is u8) (uint-makes 𝓤 H A W w8) r _ (refl, fits) $ move ! (1 ∷ 0 ∷ []) $ done !
 
-  module _ (C : Calls 𝓤 H) (Λ : Loops 𝓤 H) (fm : FmC 𝓤 H (W .laws) C) (known-forest : Triple 𝓤 (C #forest·forest) (Forest 𝓤 H A mem run)) (known-hand : Triple 𝓤 (C #exports·hand-records) (Hand 𝓤 H A mem run)) (g-room : Room u8 (length (gx .now))) (s-room : Room u8 (length (sx .now))) (u-room : Room u64 (length (ux .now))) (d-room : Room u16 (length (dx .now))) (r-room : Room R (length (rx .now))) where
+  module _ (C : Calls 𝓤 H) (Λ : Loops 𝓤 H) (fm : FmC 𝓤 H (W .laws) C) (known-forest : Triple 𝓤 (C #forest·forest) (Forest 𝓤 H A mem run)) (known-hand : Triple 𝓤 (C #berylskip·hand-records) (Hand 𝓤 H A mem run)) (g-room : Room u8 (length (gx .now))) (s-room : Room u8 (length (sx .now))) (u-room : Room u64 (length (ux .now))) (d-room : Room u16 (length (dx .now))) (r-room : Room R (length (rx .now))) where
     good : (p : ForestAnswer) (v : Val) → Is E.the-row p (v ∷ []) → Is E.the-row p (answer-vals p)
     good p v ip = subst (Is E.the-row p) (EL.tells E.the-type E′.the-laws p _ ip) ip
 
@@ -203,23 +203,23 @@ module _ {M : Type 1} (𝓤 : URA M) (H : Heap 𝓤) (A : Atoms 𝓤) (W : Given
         keep ! (8 ∷ 7 ∷ 6 ∷ 5 ∷ 4 ∷ 1 ∷ 0 ∷ 13 ∷ 12 ∷ 11 ∷ 10 ∷ 9 ∷ 3 ∷ 2 ∷ []) $ by ! (exits p (zs .1 .1 .0) (zs .1 .1 .1 .0) (zs .1 .1 .1 .1 .0) (ys .1 .0) (ys .1 .1 .0) r found lu ld lr told (ir .1))))))))))))))))))))))))))))))))
 
 module _ {M : Type 1} (𝓤 : URA M) (H : Heap 𝓤) (A : Atoms 𝓤) (W : Given 𝓤 H A) (mem : Memory → SProp 𝓤) (run : Routine → Fun 𝓤) where
-  forest-walks : (C : Calls 𝓤 H) (Λ : Loops 𝓤 H) → FmC 𝓤 H (W .laws) C → Triple 𝓤 (C #forest·forest) (Forest 𝓤 H A mem run) → Triple 𝓤 (C #exports·hand-records) (Hand 𝓤 H A mem run) → Walks 𝓤 H A f.ended stayed (WpFn 𝓤 H C Λ code.function) (f.clauses 𝓤 H A mem run)
+  forest-walks : (C : Calls 𝓤 H) (Λ : Loops 𝓤 H) → FmC 𝓤 H (W .laws) C → Triple 𝓤 (C #forest·forest) (Forest 𝓤 H A mem run) → Triple 𝓤 (C #berylskip·hand-records) (Hand 𝓤 H A mem run) → Walks 𝓤 H A f.ended stayed (WpFn 𝓤 H C Λ code.function) (f.clauses 𝓤 H A mem run)
   forest-walks C Λ fm known-forest known-hand = walked 𝓤 H A f.ended stayed (f.clauses 𝓤 H A mem run) (WpFn 𝓤 H C Λ code.function)
       (λ κs. (slice-vals, (slice-vals, (slice-vals, (slice-vals, (slice-vals, (ptr-vals, (ptr-vals, tt)))))))) (λ κs. (shr-slice-tells (named 0) (κs .0) u8, (shr-slice-tells (named 1) (κs .1 .0) u8, (mut-slice-tells (named 2) (κs .1 .1 .0) u64, (mut-slice-tells (named 3) (κs .1 .1 .1 .0) u16, (mut-slice-tells (named 4) (κs .1 .1 .1 .1 .0) R, (mut-tells (named 5) (κs .1 .1 .1 .1 .1 .0) usize, (mut-tells (named 6) (κs .1 .1 .1 .1 .1 .1 .0) usize, tt))))))))
       (λ κs qs bounds a g are. via 𝓤 _ (fst∗ 𝓤 _ (emp 𝓤))
       (walk 𝓤 H A W mem run (κs .0) (κs .1 .0) (κs .1 .1 .0) (κs .1 .1 .1 .0) (κs .1 .1 .1 .1 .0) (κs .1 .1 .1 .1 .1 .0) (κs .1 .1 .1 .1 .1 .1 .0) (qs .0) (qs .1 .0) (qs .1 .1 .0) (qs .1 .1 .1 .0) (qs .1 .1 .1 .1 .0) (qs .1 .1 .1 .1 .1 .0) (qs .1 .1 .1 .1 .1 .1 .0) (a .0) (a .1 .0) (a .1 .1 .0) (a .1 .1 .1 .0) (a .1 .1 .1 .1 .0) (a .1 .1 .1 .1 .1 .0) (a .1 .1 .1 .1 .1 .1 .0) C Λ fm known-forest known-hand (are .0 .0 .1) (are .1 .0 .0 .1) (are .1 .1 .0 .0 .1) (are .1 .1 .1 .0 .0 .1) (are .1 .1 .1 .1 .0 .0 .1)))
 
-berylskip-forest-meets : {M : Type 1} (𝓤 : URA M) (H : Heap 𝓤) (A : Atoms 𝓤) → Given 𝓤 H A → (mem : Memory → SProp 𝓤) (run : Routine → Fun 𝓤) (𝓣 : Tables 𝓤 H) → Triple 𝓤 (𝓣 .C #forest·forest) (Forest 𝓤 H A mem run) → Triple 𝓤 (𝓣 .C #exports·hand-records) (Hand 𝓤 H A mem run)
+berylskip-forest-nonnull-meets : {M : Type 1} (𝓤 : URA M) (H : Heap 𝓤) (A : Atoms 𝓤) → Given 𝓤 H A → (mem : Memory → SProp 𝓤) (run : Routine → Fun 𝓤) (𝓣 : Tables 𝓤 H) → Triple 𝓤 (𝓣 .C #forest·forest) (Forest 𝓤 H A mem run) → Triple 𝓤 (𝓣 .C #berylskip·hand-records) (Hand 𝓤 H A mem run)
     → Meets 𝓤 H A f.signature (WpFn 𝓤 H (𝓣 .C) (𝓣 .Λ) code.function) (f.spec 𝓤 H A mem run)
-berylskip-forest-meets 𝓤 H A W mem run 𝓣 known-forest known-hand =
+berylskip-forest-nonnull-meets 𝓤 H A W mem run 𝓣 known-forest known-hand =
     walk-meets 𝓤 H A f.ended stayed W (goes-none-slice 𝓤 H A W 7 (0 ∷ []) tt (plain (λ _. u8)) yes, (goes-none-slice 𝓤 H A W 7 (1 ∷ []) tt (plain (λ _. u8)) yes, (goes-gave-slice 𝓤 H A W 7 2 tt (plain (λ _. u64)), (goes-gave-slice 𝓤 H A W 7 3 tt (plain (λ _. u16)), (goes-gave-slice 𝓤 H A W 7 4 tt (plain (λ _. R)), (goes-gave-ref 𝓤 H A W 7 5 tt (plain (λ _. usize)), (goes-gave-ref 𝓤 H A W 7 6 tt (plain (λ _. usize)), tt))))))) (f.clauses 𝓤 H A mem run)
     (WpFn 𝓤 H (𝓣 .C) (𝓣 .Λ) code.function) (WpFn-mono 𝓤 H (W .laws) 𝓣 code.function) (forest-walks 𝓤 H A W mem run (𝓣 .C) (𝓣 .Λ) (fmOf 𝓤 H (W .laws) 𝓣) known-forest known-hand)
 
-pub berylskip-forest-spec : {M : Type 1} → stated.statement M
+pub berylskip-forest-nonnull-spec : {M : Type 1} → stated.statement M
 unfolding code.routine tablesOf
-berylskip-forest-spec 𝓤 H 𝓜 𝓖 𝓡 =
+berylskip-forest-nonnull-spec 𝓤 H 𝓜 𝓖 𝓡 =
     entered 𝓤 H (tripleOf 𝓤 H (𝓖 .A) f.signature (f.spec 𝓤 H (𝓖 .A) (𝓜 .mem) (𝓡 .run)))
-    (tables 𝓤 H 𝓜 𝓡 code.env .C) (tables 𝓤 H 𝓜 𝓡 code.env .Λ) #exports·berylskip-forest code.function (code.unfolded 𝓤 H 𝓜 𝓡)
-    (berylskip-forest-meets 𝓤 H (𝓖 .A) (givenOf 𝓤 H 𝓜 𝓖) (𝓜 .mem) (𝓡 .run) (tablesOf 𝓤 H 𝓜 (tables 𝓤 H 𝓜 𝓡 code.env))
+    (tables 𝓤 H 𝓜 𝓡 code.env .C) (tables 𝓤 H 𝓜 𝓡 code.env .Λ) #berylskip·berylskip-forest-nonnull code.function (code.unfolded 𝓤 H 𝓜 𝓡)
+    (berylskip-forest-nonnull-meets 𝓤 H (𝓖 .A) (givenOf 𝓤 H 𝓜 𝓖) (𝓜 .mem) (𝓡 .run) (tablesOf 𝓤 H 𝓜 (tables 𝓤 H 𝓜 𝓡 code.env))
     (cited 𝓤 H (Forest 𝓤 H (𝓖 .A) (𝓜 .mem) (𝓡 .run)) 𝓜 𝓡 code.env #forest·forest forest-def.routine code.calls-forest·forest (forest-thm.met 𝓤 H 𝓜 𝓖 𝓡))
-    (cited 𝓤 H (Hand 𝓤 H (𝓖 .A) (𝓜 .mem) (𝓡 .run)) 𝓜 𝓡 code.env #exports·hand-records hand-def.routine code.calls-exports·hand-records (hand-thm.met 𝓤 H 𝓜 𝓖 𝓡)))
+    (cited 𝓤 H (Hand 𝓤 H (𝓖 .A) (𝓜 .mem) (𝓡 .run)) 𝓜 𝓡 code.env #berylskip·hand-records hand-def.routine code.calls-berylskip·hand-records (hand-thm.met 𝓤 H 𝓜 𝓖 𝓡)))

@@ -1,13 +1,13 @@
--- `exports::berylskip_tree` meets its contract: the question's answer is handed over, by its values or as a refusal.
+-- `berylskip::berylskip_marks_nonnull` meets its contract: the question's answer is handed over, by its values or as a refusal.
 use mathlib.Core.Path.{ap}
 use borrow.Author.Needs.{needs}
-use Rattle.tree.specs.Told.{treeTold}
-use Rattle.exports.proofs.Handing.{hands-values, hands-refusal}
-use Rattle.exports.proofs.berylskip_tree.Statement.{statement}
-use Rattle.exports.proofs.berylskip_tree.Tie as tie
+use Rattle.marks.specs.Told.{marksTold}
+use Rattle.berylskip.proofs.Handing.{hands-values, hands-refusal}
+use Rattle.berylskip.proofs.berylskip_marks_nonnull.Statement.{statement}
+use Rattle.berylskip.proofs.berylskip_marks_nonnull.Tie as tie
 
-tree-requires : tie.Need-tree-requires
-tree-requires c κs = search needs
+marks-requires : tie.Need-marks-requires
+marks-requires c κs = search needs
 
 enum-known-refusal : tie.Need-enum-known-refusal
 enum-known-refusal c = search needs
@@ -15,8 +15,8 @@ enum-known-refusal c = search needs
 refuse-requires : tie.Need-refuse-requires
 refuse-requires c κs = search needs
 
-enum-known-count : tie.Need-enum-known-count
-enum-known-count c = search needs
+enum-known-s : tie.Need-enum-known-s
+enum-known-s c = search needs
 
 same-length : tie.Need-same-length
 same-length c = search needs
@@ -31,7 +31,7 @@ returns : tie.Need-returns
 returns c =
     let matched = c .before .before .before in
     let asked = matched .before .before .before .before .before .before .before .before in
-    hands-refusal (asked .tree .result) (asked .tree .ensures) (matched .refusal .given .0 .0) (ap treeTold (matched .refusal .given .1)) (c .refuse .ensures)
+    hands-refusal (asked .marks .result) (asked .marks .ensures) (matched .refusal .given .0 .0) (ap marksTold (matched .refusal .given .1)) (c .refuse .ensures)
 
 same-length-4 : tie.Need-same-length-4
 same-length-4 c = search needs
@@ -46,16 +46,16 @@ returns-2 : tie.Need-returns-2
 returns-2 c =
     let matched = c .before in
     let asked = matched .before .before .before .before .before .before .before .before in
-    hands-values (asked .tree .result) (asked .tree .ensures) _ (ap treeTold (matched .count .given .1))
+    hands-values (asked .marks .result) (asked .marks .ensures) _ (ap marksTold (matched .s .given .1))
 
-pub berylskip-tree-spec : {M : Type 1} → statement M
-berylskip-tree-spec =
+pub berylskip-marks-nonnull-spec : {M : Type 1} → statement M
+berylskip-marks-nonnull-spec =
     tie.close
     (tie.spec
-    tree-requires
+    marks-requires
     enum-known-refusal
     refuse-requires
-    enum-known-count
+    enum-known-s
     same-length
     same-length-2
     same-length-3

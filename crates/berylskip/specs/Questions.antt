@@ -11,7 +11,7 @@ use Rattle.tree.specs.Told.{treeTold}
 use Rattle.forest.specs.declared.Branch.{Branch}
 use Rattle.forest.specs.Outcome.{ForestOutcome}
 use Rattle.forest.specs.Told.{forestTold}
-use Rattle.exports.specs.Exported.{Exported, Numbers}
+use Rattle.berylskip.specs.Exported.{Exported, Numbers}
 
 -- rounds, facts
 abbrev pub ChartExported : (g line words depths values : List ℕ) (place : ℕ) (words′ depths′ : List ℕ) → Numbers → Type 0

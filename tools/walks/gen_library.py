@@ -1,4 +1,4 @@
-# Writes the proof of  fn berylskip_forest(g, line, words, depths, rows, records, place)  of the crate exports
+# Writes the proof of  fn berylskip_forest_nonnull(g, line, words, depths, rows, records, place)  of the crate berylskip
 #   { let answer = forest(g, line, words, depths, rows); hand_records(answer, records, place) }
 # run at the repository's root, then `rt fmt`. All `&mut` are given to the two callees for good; what is lent by `&` is copied.
 from walk import Walk, spec
@@ -103,7 +103,7 @@ w.say("free0 ! $"); w.nl(); w.keep(*k7,"G","S","fu","fd","fr","fn","fp")
 w.say("by ! (exits p "+" ".join(f"({x})" for x in L3)+" (ys .1 .0) (ys .1 .1 .0) r found lu ld lr told (ir .1))"+")"*w.par)
 WALK=w.text()
 
-uses="""-- `exports::berylskip_forest` meets its contract: a walk of its MIR. The words, the depths and the rows are given to `forest` for good, the two numbers to `hand_records`; what is lent by `&` is copied.
+uses="""-- `berylskip::berylskip_forest_nonnull` meets its contract: a walk of its MIR. The words, the depths and the rows are given to `forest` for good, the two numbers to `hand_records`; what is lent by `&` is copied.
 -- All that the proof knows of `forest` and `hand_records` is that each meets its contract.
 use mathlib.Core.Path.{_≡_, refl, ap, subst}
 use Prim.Native.Nat.{ℕ, _<_, _^_}
@@ -154,15 +154,15 @@ use Rattle.forest.proofs.forest as forest
 use Rattle.forest.proofs.forest.Symbol as forest-def
 use Rattle.forest.proofs.forest.Symbol.{name as #forest·forest}
 use Rattle.forest.proofs.forest.Met as forest-thm
-use Rattle.exports.specs.Exported.{numbers, handed}
-use Rattle.exports.proofs.hand_records as hand
-use Rattle.exports.proofs.hand_records.Symbol as hand-def
-use Rattle.exports.proofs.hand_records.Symbol.{name as #exports·hand-records}
-use Rattle.exports.proofs.hand_records.Met as hand-thm
-use Rattle.exports.proofs.berylskip_forest.Key.{name as #exports·berylskip-forest}
-use Rattle.exports.proofs.berylskip_forest as f
-use Rattle.exports.proofs.berylskip_forest.Statement as stated
-use Rattle.exports.proofs.berylskip_forest.Code as code
+use Rattle.berylskip.specs.Exported.{numbers, handed}
+use Rattle.berylskip.proofs.hand_records as hand
+use Rattle.berylskip.proofs.hand_records.Symbol as hand-def
+use Rattle.berylskip.proofs.hand_records.Symbol.{name as #berylskip·hand-records}
+use Rattle.berylskip.proofs.hand_records.Met as hand-thm
+use Rattle.berylskip.proofs.berylskip_forest_nonnull.Key.{name as #berylskip·berylskip-forest-nonnull}
+use Rattle.berylskip.proofs.berylskip_forest_nonnull as f
+use Rattle.berylskip.proofs.berylskip_forest_nonnull.Statement as stated
+use Rattle.berylskip.proofs.berylskip_forest_nonnull.Code as code
 """
 lines=[]
 def put(s): lines.append(s)
@@ -233,7 +233,7 @@ put(f"""  abbrev a : {product(argT)}
       says ! (record {{ answer = p; outcome = found; hands = told }}) $
       {EXITS}
 
-  module _ (C : Calls 𝓤 H) (Λ : Loops 𝓤 H) (fm : FmC 𝓤 H (W .laws) C) (known-forest : Triple 𝓤 (C #forest·forest) (Forest 𝓤 H A mem run)) (known-hand : Triple 𝓤 (C #exports·hand-records) (Hand 𝓤 H A mem run)) {" ".join(f"({r} : Room {e} (length ({x} .now)))" for r,e,x in zip(rooms,elem,refs))} where
+  module _ (C : Calls 𝓤 H) (Λ : Loops 𝓤 H) (fm : FmC 𝓤 H (W .laws) C) (known-forest : Triple 𝓤 (C #forest·forest) (Forest 𝓤 H A mem run)) (known-hand : Triple 𝓤 (C #berylskip·hand-records) (Hand 𝓤 H A mem run)) {" ".join(f"({r} : Room {e} (length ({x} .now)))" for r,e,x in zip(rooms,elem,refs))} where
     good : (p : ForestAnswer) (v : Val) → Is E.the-row p (v ∷ []) → Is E.the-row p (answer-vals p)
     good p v ip = subst (Is E.the-row p) (EL.tells E.the-type E′.the-laws p _ ip) ip
 
@@ -244,7 +244,7 @@ put(f"""  abbrev a : {product(argT)}
 """)
 ks=lambda n:[f"({n}{' .1'*i} .0)" for i in range(7)]
 tells=[f"shr-slice-tells (named {i}) {ks('κs')[i]} {elem[i]}" for i in range(2)]+[f"mut-slice-tells (named {i}) {ks('κs')[i]} {elem[i]}" for i in range(2,5)]+[f"mut-tells (named {i}) {ks('κs')[i]} {elem[i]}" for i in range(5,7)]
-known="Triple 𝓤 ({C} #forest·forest) (Forest 𝓤 H A mem run) → Triple 𝓤 ({C} #exports·hand-records) (Hand 𝓤 H A mem run)"
+known="Triple 𝓤 ({C} #forest·forest) (Forest 𝓤 H A mem run) → Triple 𝓤 ({C} #berylskip·hand-records) (Hand 𝓤 H A mem run)"
 put(f"""module _ {wide} where
   forest-walks : (C : Calls 𝓤 H) (Λ : Loops 𝓤 H) → FmC 𝓤 H (W .laws) C → {known.replace("{C}","C")} → Walks 𝓤 H A f.ended stayed (WpFn 𝓤 H C Λ code.function) (f.clauses 𝓤 H A mem run)
   forest-walks C Λ fm known-forest known-hand = walked 𝓤 H A f.ended stayed (f.clauses 𝓤 H A mem run) (WpFn 𝓤 H C Λ code.function)
@@ -252,12 +252,12 @@ put(f"""module _ {wide} where
       (λ κs qs bounds a g are. via 𝓤 _ (fst∗ 𝓤 _ (emp 𝓤))
       (walk 𝓤 H A W mem run {" ".join(ks("κs")+ks("qs")+ks("a"))} C Λ fm known-forest known-hand {" ".join(f"(are{' .1'*i} .0 .0 .1)" for i in range(5))}))
 
-berylskip-forest-meets : {heaps} → Given 𝓤 H A → (mem : Memory → SProp 𝓤) (run : Routine → Fun 𝓤) (𝓣 : Tables 𝓤 H) → {known.replace("{C}","𝓣 .C")}
+berylskip-forest-nonnull-meets : {heaps} → Given 𝓤 H A → (mem : Memory → SProp 𝓤) (run : Routine → Fun 𝓤) (𝓣 : Tables 𝓤 H) → {known.replace("{C}","𝓣 .C")}
     → Meets 𝓤 H A f.signature (WpFn 𝓤 H (𝓣 .C) (𝓣 .Λ) code.function) (f.spec 𝓤 H A mem run)
-berylskip-forest-meets 𝓤 H A W mem run 𝓣 known-forest known-hand =
+berylskip-forest-nonnull-meets 𝓤 H A W mem run 𝓣 known-forest known-hand =
     walk-meets 𝓤 H A f.ended stayed W {nest([f"goes-none-slice 𝓤 H A W 7 ({i} ∷ []) tt (plain (λ _. {elem[i]})) yes" for i in range(2)]+[f"goes-gave-slice 𝓤 H A W 7 {i} tt (plain (λ _. {elem[i]}))" for i in range(2,5)]+[f"goes-gave-ref 𝓤 H A W 7 {i} tt (plain (λ _. {elem[i]}))" for i in range(5,7)])} (f.clauses 𝓤 H A mem run)
     (WpFn 𝓤 H (𝓣 .C) (𝓣 .Λ) code.function) (WpFn-mono 𝓤 H (W .laws) 𝓣 code.function) (forest-walks 𝓤 H A W mem run (𝓣 .C) (𝓣 .Λ) (fmOf 𝓤 H (W .laws) 𝓣) known-forest known-hand)
 
-"""+spec("exports","berylskip-forest",[("forest","forest·forest"),("hand","exports·hand-records")]).replace("berylskip-forest.s","f.s"))
+"""+spec("berylskip","berylskip-forest-nonnull",[("forest","forest·forest"),("hand","berylskip·hand-records")]).replace("berylskip-forest-nonnull.s","f.s"))
 text=uses+"\n"+"\n".join(lines)
-open("crates/exports/proofs/berylskip_forest/Proof.antt","w").write("\n".join(l.rstrip() for l in text.split("\n")))
+open("crates/berylskip/proofs/berylskip_forest_nonnull/Proof.antt","w").write("\n".join(l.rstrip() for l in text.split("\n")))

@@ -8,8 +8,8 @@ use Rattle.marks.proofs.Unique.{marks-outcome-unique}
 use Rattle.tree.proofs.Unique.{tree-unique}
 use Rattle.forest.specs.declared.Branch.{Branch}
 use Rattle.forest.proofs.Unique.{forest-unique}
-use Rattle.exports.specs.Exported.{Numbers, handed, Exported}
-use Rattle.exports.specs.Questions.{ChartExported, EndsExported, MarksExported, TreeExported, ForestExported}
+use Rattle.berylskip.specs.Exported.{Numbers, handed, Exported}
+use Rattle.berylskip.specs.Questions.{ChartExported, EndsExported, MarksExported, TreeExported, ForestExported}
 
 -- one answer hands over one set of numbers
 pub same-numbers :
