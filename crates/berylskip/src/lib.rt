@@ -1,4 +1,4 @@
-// The questions for C and Rust: an answer is 0 and its values, a refusal its number and its place.
+// The questions for C and Rust: an answer is 0 and its values, a refusal its number and its place. A slice's pointer is never null, and the names tell C so.
 ghost use mathlib.Core.Path.{_≡_};
 ghost use mathlib.Core.List.{_∷_, []};
 ghost use Rattle.refusals.specs.Row.{rowOf};
