@@ -22,8 +22,7 @@ use Rattle.derivation.specs.FactCount.{factCount}
 use Rattle.derivation.specs.RoundsOf.{roundsOf}
 use Rattle.derivation.proofs.Table.{at-listed}
 use Rattle.derivation.proofs.RoundsOf.{rounds-are}
-use Rattle.checks.specs.Question.{startCheck}
-use Rattle.checks.specs.Memory.{workCheck}
+use Rattle.checks.specs.declared.Asked.the-variants.{Nothing, Start}
 use Rattle.checks.proofs.Laws.{not-both}
 use Rattle.grammar.specs.declared.reading.Sections.{Sections}
 use Rattle.grammar.specs.Value.{grammarOf}
@@ -33,11 +32,11 @@ use Rattle.chart.specs.declared.ChartAnswer.{ChartAnswer}
 use Rattle.chart.specs.declared.ChartAnswer.the-variants as chart
 use Rattle.chart.specs.declared.EndsAnswer.{EndsAnswer}
 use Rattle.chart.specs.declared.EndsAnswer.the-variants as ends
-use Rattle.chart.specs.Checks.{chartChecks, endsChecks, endsQuestion}
+use Rattle.chart.specs.Checks.{chartChecks, endsChecks}
 use Rattle.chart.specs.ChartOutcome.{ChartOutcome, turnedDown, filled}
 use Rattle.chart.specs.EndsOutcome.{EndsOutcome, found}
 use Rattle.chart.specs.EndsOutcome as ends-outcome
-use Rattle.chart.proofs.CheckLaws.{Passes, sections, grammar-is, question-is, early-passed}
+use Rattle.chart.proofs.CheckLaws.{Passes, sections, grammar-is, early-passed}
 use Rattle.chart.proofs.CountLaws.{digit-is, digit-past}
 use Rattle.chart.proofs.Unique.{chart-told, ends-told}
 
@@ -55,25 +54,25 @@ row-is G line proper A i row shows x small same = same-members row x (λ j. let 
         ∙ at-listed (digit x) 0 (suc (length line)) j l
     equal j (no n) = digit-past G line proper A i row shows j (omega arith) ∙ sym (digit-above x (suc (length line)) j small (omega arith))
 
-module _ (g line words depths : List ℕ) (s : Sections) (passes : Passes g line s) (memory : workCheck (s .categories) (length line) (length words) (length depths) ≡ check.Passed) where
-  chart-passed : reported (chartChecks g line words depths) ≡ check.Passed
-  chart-passed = rw (early-passed g line s passes words depths check.Passed check.Passed check.Passed refl memory)
-
-  ends-passed : (A i : ℕ) → startCheck (s .categories) (length line) A i ≡ check.Passed → reported (endsChecks g line A i words depths) ≡ check.Passed
-  ends-passed A i e = rw (early-passed g line s passes words depths (endsQuestion g line A i) check.Passed check.Passed (question-is g line s passes A i e) memory)
-
-  pub chart-answered : {answer : ChartAnswer} {words′ depths′ : List ℕ} → ChartOutcome g line words depths answer words′ depths′ →
+module _ (g line words depths : List ℕ) (s : Sections) where
+  pub chart-answered : Passes g line Nothing (length words) (length depths) s → {answer : ChartAnswer} {words′ depths′ : List ℕ} → ChartOutcome g line words depths answer words′ depths′ →
       (answer ≡ chart.Filled (roundsOf (grammarOf g s) line) (factCount (grammarOf g s) line)) × WorkFilled (grammarOf g s) line words depths words′ depths′
-  chart-answered (turnedDown p a t w d) = absurd (not-both p chart-passed)
-  chart-answered {answer} (filled p t r f y) =
-      let same = grammar-is g line s passes in
-      let rounds = rounds-are (grammarOf g s) line (sections-proper g s (sections g line s passes)) (rw same at r) in
+  chart-answered passes (turnedDown p a t w d) = absurd (not-both p passed)
+    where
+      passed : reported (chartChecks g line words depths) ≡ check.Passed
+      passed = rw (early-passed words depths check.Passed check.Passed passes)
+  chart-answered passes {answer} (filled p t r f y) =
+      let same = grammar-is passes in
+      let rounds = rounds-are (grammarOf g s) line (sections-proper g s (sections passes)) (rw same at r) in
       let facts = rw same at f in
       (chart-told answer t ∙ rw (rounds, facts), rw same at y)
 
-  pub ends-answered : (A i : ℕ) → startCheck (s .categories) (length line) A i ≡ check.Passed →
+  pub ends-answered : (A i : ℕ) → Passes g line (Start A i) (length words) (length depths) s →
       {answer : EndsAnswer} {words′ depths′ : List ℕ} → EndsOutcome g line A i words depths answer words′ depths′ →
       (row : ℕ) × (smallest : ℕ) × (answer ≡ ends.Row row (countBelow 64 row) smallest) × ((j : ℕ) → Member row j ↔ Fact (grammarOf g s) line A i j) × First row smallest
-  ends-answered A i e (ends-outcome.turnedDown p a t w d) = absurd (not-both p (ends-passed A i e))
-  ends-answered A i e {answer} (found {row = row} {smallest = smallest} p t m c f y) =
-      (row, smallest, ends-told answer t ∙ rw c, rw (grammar-is g line s passes) at m, f)
+  ends-answered A i passes (ends-outcome.turnedDown p a t w d) = absurd (not-both p passed)
+    where
+      passed : reported (endsChecks g line A i words depths) ≡ check.Passed
+      passed = rw (early-passed words depths check.Passed check.Passed passes)
+  ends-answered A i passes {answer} (found {row = row} {smallest = smallest} p t m c f y) =
+      (row, smallest, ends-told answer t ∙ rw c, rw (grammar-is passes) at m, f)

@@ -1,6 +1,6 @@
--- What a question's checks report, from what each of them finds.
+-- What a question's checks report, from what the first of them find.
 use Prim.Native.Nat.{ℕ, _≤_}
-use mathlib.Core.Path.{_≡_, refl}
+use mathlib.Core.Path.{_≡_, refl, _∙_}
 use mathlib.Core.List.{List}
 use native.Mathlib.Nat.{le-trans}
 use native.Mathlib.Omega.{arith}
@@ -10,12 +10,15 @@ use Rattle.refusals.specs.declared.Refusal.{Refusal}
 use Rattle.refusals.specs.declared.Check.{Check}
 use Rattle.refusals.specs.declared.Check.the-variants as check
 use Rattle.refusals.specs.Order.{early}
+use Rattle.derivation.specs.Grammar.{Grammar}
 use Rattle.derivation.specs.RoundsOf.{roundsOf}
 use Rattle.derivation.proofs.RoundsOf.{rounds-fit}
+use Rattle.checks.specs.declared.Asked.{Asked}
 use Rattle.checks.specs.Line.{IsLine, lineCheck}
-use Rattle.checks.specs.Question.{startCheck}
-use Rattle.checks.specs.Memory.{workCheck}
-use Rattle.checks.proofs.Laws.{line-passed}
+use Rattle.checks.specs.Question.{askedCheck}
+use Rattle.checks.specs.Memory.{chartSize, depthsSize, workCheck}
+use Rattle.checks.specs.Rest.{restCheck}
+use Rattle.checks.proofs.Laws.{both-passed, refused-before, passed-before, line-passed, work-passed}
 use Rattle.grammar.specs.declared.reading.Sections.{Sections}
 use Rattle.grammar.specs.declared.reading.Reading.{Reading}
 use Rattle.grammar.specs.declared.reading.Reading.the-variants.{Accepted, Refused}
@@ -24,53 +27,53 @@ use Rattle.grammar.specs.Value.{Sectioned, grammarOf}
 use Rattle.grammar.specs.Given.{grammarGiven}
 use Rattle.grammar.proofs.Accepted.{accepted, whole}
 use Rattle.grammar.proofs.Encoded.{sections-proper, category-count}
-use Rattle.chart.specs.Checks.{checksOf, depthCheck, endsQuestion}
-use Rattle.chart.specs.Prepared.{prepared, afterGrammar, afterLine}
+use Rattle.chart.specs.Checked.{acceptedIf, checkedOf}
+use Rattle.chart.specs.Checks.{checksOn, checksOf, depthCheck}
 
--- a refusal of grammar or line is the question's
-pub prepared-refused :
-    (g line words depths : List ℕ) (question fact room : Check) (refusal : Refusal) → prepared g line ≡ Refused refusal → early (checksOf g line words depths question fact room) ≡ check.Refused refusal
-prepared-refused g line words depths question fact room refusal e = go (readOf g) refl e
-  where
-    go : (r : Reading) → readOf g ≡ r → afterGrammar r line ≡ Refused refusal → early (checksOf g line words depths question fact room) ≡ check.Refused refusal
-    go (Refused x) q h = let z : x ≡ refusal = cc in rw (q, z)
-    go (Accepted s) q h = later (lineCheck (s .classes) line) refl h
-      where
-        later : (c : Check) → lineCheck (s .classes) line ≡ c → afterLine s c ≡ Refused refusal → early (checksOf g line words depths question fact room) ≡ check.Refused refusal
-        later (check.Refused x) p k = let z : x ≡ refusal = cc in rw (q, p, z)
-        later check.Passed p k = absurd (never k)
-          where
-            never : Accepted s ≡ Refused refusal → ⊥
-            never k = let z : _≡_ {A = ℕ} 0 1 = cc in omega arith
+-- sections are handed on exactly where the check passes
+accepted-passed : (s x : Sections) (c : Check) → acceptedIf x c ≡ Accepted s → (x ≡ s) × (c ≡ check.Passed)
+accepted-passed s x check.Passed e = (cc, refl)
+accepted-passed s x (check.Refused y) e = absurd (let z : _≡_ {A = ℕ} 0 1 = cc in omega arith)
 
--- what is known of a question whose grammar and line pass
-pub record Passes (g line : List ℕ) (s : Sections) : Type 0 where
+accepted-refused : (x : Sections) (c : Check) (refusal : Refusal) → acceptedIf x c ≡ Refused refusal → c ≡ check.Refused refusal
+accepted-refused x (check.Refused y) refusal e = cc
+accepted-refused x check.Passed refusal e = absurd (let z : _≡_ {A = ℕ} 0 1 = cc in omega arith)
+
+-- a refusal of the first checks is the question's
+pub checked-refused :
+    (reading : Reading) (G : Grammar) (line : List ℕ) (asked : Asked) (words depths : List ℕ) (fact room : Check) (refusal : Refusal) →
+    checkedOf reading line asked (length words) (length depths) ≡ Refused refusal → early (checksOn reading G line asked words depths fact room) ≡ check.Refused refusal
+checked-refused (Refused x) G line asked words depths fact room refusal e = cc
+checked-refused (Accepted s) G line asked words depths fact room refusal e =
+    refused-before (lineCheck (s .classes) line) (askedCheck (s .categories) (length line) asked) (workCheck (s .categories) (length line) (length words) (length depths)) (depthCheck G line)
+    (accepted-refused s _ refusal e)
+
+-- what is known of a question whose first checks pass
+pub record Passes (g line : List ℕ) (asked : Asked) (words numbers : ℕ) (s : Sections) : Type 0 where
   pub read : readOf g ≡ Accepted s
-  pub line-check : lineCheck (s .classes) line ≡ check.Passed
+  pub rest : restCheck (s .classes) (s .categories) line asked words numbers ≡ check.Passed
 
-pub prepared-accepted : (g line : List ℕ) (s : Sections) → prepared g line ≡ Accepted s → Passes g line s
-prepared-accepted g line s e = go (readOf g) refl e
+pub checked-accepted : (g line : List ℕ) (asked : Asked) (words numbers : ℕ) (s : Sections) → checkedOf (readOf g) line asked words numbers ≡ Accepted s → Passes g line asked words numbers s
+checked-accepted g line asked words numbers s e = go (readOf g) refl e
   where
-    go : (r : Reading) → readOf g ≡ r → afterGrammar r line ≡ Accepted s → Passes g line s
-    go (Refused x) q h = absurd (never h)
-      where
-        never : Refused x ≡ Accepted s → ⊥
-        never k = let z : _≡_ {A = ℕ} 0 1 = cc in omega arith
-    go (Accepted x) q h = later (lineCheck (x .classes) line) refl h
-      where
-        later : (c : Check) → lineCheck (x .classes) line ≡ c → afterLine x c ≡ Accepted s → Passes g line s
-        later (check.Refused y) p k = absurd (never k)
-          where
-            never : Refused y ≡ Accepted s → ⊥
-            never k = let z : _≡_ {A = ℕ} 0 1 = cc in omega arith
-        later check.Passed p k = let z : x ≡ s = cc in record { read = rw z at q; line-check = rw z at p }
+    go : (r : Reading) → readOf g ≡ r → checkedOf r line asked words numbers ≡ Accepted s → Passes g line asked words numbers s
+    go (Refused x) q h = absurd (let z : _≡_ {A = ℕ} 0 1 = cc in omega arith)
+    go (Accepted x) q h =
+        let p = accepted-passed s x (restCheck (x .classes) (x .categories) line asked words numbers) h in
+        record { read = rw (p .0) at q; rest = rw (p .0) at (p .1) }
 
-module _ (g line : List ℕ) (s : Sections) (passes : Passes g line s) where
+module _ {g line : List ℕ} {asked : Asked} {words numbers : ℕ} {s : Sections} (passes : Passes g line asked words numbers s) where
   pub sections : Sectioned g s
   sections = accepted g s (passes .read) .0
 
   pub line-is : IsLine (s .classes) line
-  line-is = line-passed (s .classes) line .0 (passes .line-check)
+  line-is = line-passed (s .classes) line .0 (both-passed _ _ (passes .rest) .0)
+
+  pub asked-is : askedCheck (s .categories) (length line) asked ≡ check.Passed
+  asked-is = both-passed _ _ (both-passed (lineCheck (s .classes) line) _ (passes .rest) .1) .0
+
+  pub memory-is : (chartSize (s .categories) (length line) ≤ words) × (depthsSize (s .categories) (length line) ≤ numbers)
+  memory-is = work-passed _ _ _ _ (both-passed (askedCheck (s .categories) (length line) asked) _ (both-passed (lineCheck (s .classes) line) _ (passes .rest) .1) .1)
 
   pub categories-few : s .categories ≤ 32
   categories-few = whole g s sections .categories-high
@@ -78,23 +81,16 @@ module _ (g line : List ℕ) (s : Sections) (passes : Passes g line s) where
   pub grammar-is : grammarGiven g ≡ grammarOf g s
   grammar-is = rw (passes .read)
 
-  -- what the check of a category and a start finds
-  pub question-is : (A i : ℕ) {c : Check} → startCheck (s .categories) (length line) A i ≡ c → endsQuestion g line A i ≡ c
-  question-is A i e = rw (passes .read) e
-
   -- no depth passes 65,535
-  depth-passes : depthCheck (grammarOf g s) line ≡ check.Passed
+  pub depth-passes : depthCheck (grammarOf g s) line ≡ check.Passed
   depth-passes =
       let few = rounds-fit (grammarOf g s) line (sections-proper g s sections) (rw (category-count g s sections) categories-few) (line-is .short) in
       let small : roundsOf (grammarOf g s) line ≤ 65535 = le-trans few (omega arith) in
       rw (le-ltb 65535 (roundsOf (grammarOf g s) line) small)
 
-  module _ (words depths : List ℕ) (question fact room : Check) where
-    pub question-refused : (refusal : Refusal) → question ≡ check.Refused refusal → early (checksOf g line words depths question fact room) ≡ check.Refused refusal
-    question-refused refusal e = rw (passes .read, passes .line-check, e)
-
-    pub memory-refused : (refusal : Refusal) → question ≡ check.Passed → workCheck (s .categories) (length line) (length words) (length depths) ≡ check.Refused refusal → early (checksOf g line words depths question fact room) ≡ check.Refused refusal
-    memory-refused refusal q e = rw (passes .read, passes .line-check, q, e)
-
-    pub early-passed : question ≡ check.Passed → workCheck (s .categories) (length line) (length words) (length depths) ≡ check.Passed → early (checksOf g line words depths question fact room) ≡ check.Passed
-    early-passed q e = rw (passes .read, passes .line-check, q, e, depth-passes)
+pub early-passed : {g line : List ℕ} {asked : Asked} (words depths : List ℕ) {s : Sections} (fact room : Check) → Passes g line asked (length words) (length depths) s →
+    early (checksOf g line asked words depths fact room) ≡ check.Passed
+early-passed {g} {line} {asked} words depths {s} fact room passes =
+    rw (passes .read)
+    (passed-before (lineCheck (s .classes) line) (askedCheck (s .categories) (length line) asked) (workCheck (s .categories) (length line) (length words) (length depths)) (depthCheck (grammarOf g s) line) (passes .rest)
+    ∙ depth-passes passes)

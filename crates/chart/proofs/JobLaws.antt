@@ -6,7 +6,6 @@ use mathlib.Core.List.{List, []}
 use native.Mathlib.Omega.{arith}
 use lib.ListN.{length, getD}
 use borrow.Author.Tests.{le-ltb}
-use Rattle.refusals.specs.declared.Check.the-variants as check
 use Rattle.positions.specs.Member.{digit, Member}
 use Rattle.positions.specs.Count.{countBelow}
 use Rattle.positions.specs.First.{First}
@@ -21,9 +20,9 @@ use Rattle.derivation.specs.RoundsOf.{greatest, roundsOf}
 use Rattle.derivation.specs.Facts.{facts}
 use Rattle.derivation.specs.FactCount.{total, factCount}
 use Rattle.derivation.proofs.Table.{depthOf-is, depthIs-unique, depthIs-depth}
+use Rattle.checks.specs.declared.Asked.the-variants.{Nothing, Start}
 use Rattle.checks.specs.Line.{tokensFrom, lineCheck}
 use Rattle.checks.specs.Question.{startCheck}
-use Rattle.checks.specs.Memory.{workCheck}
 use Rattle.grammar.specs.declared.reading.Sections.{Sections}
 use Rattle.grammar.specs.declared.reading.Reading.the-variants.{Accepted}
 use Rattle.grammar.specs.Reading.{eachFrom, ruleFrom, rulesFrom, flagsSection, rulesSection, sectionsOf, readOf}
@@ -54,14 +53,6 @@ job-grammar = refl
 
 job-proper : Proper jobGrammar
 job-proper = rw job-grammar at (accepted-proper jobBytes jobSections job-read)
-
-job-passes : Passes jobBytes jobLine jobSections
-unfolding jobLine lineCheck tokensFrom
-job-passes = record { read = job-read; line-check = refl }
-
-empty-passes : Passes jobBytes [] jobSections
-unfolding lineCheck tokensFrom
-empty-passes = record { read = job-read; line-check = refl }
 
 -- computed: rounds, facts, the depth of (0, 1, 6), the ends from 1
 job-rounds : roundsOf jobGrammar jobLine ≡ 3
@@ -105,16 +96,21 @@ unfolding countBelow digit
 job-count = refl
 
 module _ {words depths : List ℕ} (memory : JobMemory words depths) where
-  job-memory : workCheck 1 (length jobLine) (length words) (length depths) ≡ check.Passed
-  unfolding jobLine
-  job-memory = rw (le-ltb (length words) 7 (memory .words-long), le-ltb (length depths) 49 (memory .depths-long))
+  job-passes : Passes jobBytes jobLine Nothing (length words) (length depths) jobSections
+  unfolding jobLine lineCheck tokensFrom
+  job-passes = record { read = job-read; rest = rw (le-ltb (length words) 7 (memory .words-long), le-ltb (length depths) 49 (memory .depths-long)) }
 
-  empty-memory : workCheck 1 0 (length words) (length depths) ≡ check.Passed
-  empty-memory = rw (le-ltb (length words) 1 (omega arith), le-ltb (length depths) 1 (omega arith))
+  start-passes : Passes jobBytes jobLine (Start 0 1) (length words) (length depths) jobSections
+  unfolding jobLine lineCheck tokensFrom startCheck
+  start-passes = record { read = job-read; rest = rw (le-ltb (length words) 7 (memory .words-long), le-ltb (length depths) 49 (memory .depths-long)) }
+
+  empty-passes : Passes jobBytes [] Nothing (length words) (length depths) jobSections
+  unfolding lineCheck tokensFrom
+  empty-passes = record { read = job-read; rest = rw (le-ltb (length words) 1 (omega arith), le-ltb (length depths) 1 (omega arith)) }
 
   -- the work memory holds the chart and the depths of the job's line
   pub job-filled : {answer : ChartAnswer} {words′ depths′ : List ℕ} → ChartOutcome jobBytes jobLine words depths answer words′ depths′ → WorkFilled jobGrammar jobLine words depths words′ depths′
-  job-filled o = rw job-grammar at (chart-answered jobBytes jobLine words depths jobSections job-passes job-memory o .1)
+  job-filled o = rw job-grammar at (chart-answered jobBytes jobLine words depths jobSections job-passes o .1)
 
   -- rounds 3 facts 6; the row of (0, 1) is 84, and the depth of (0, 1, 6) is 3
   pub job-outcome : {answer : ChartAnswer} {words′ depths′ : List ℕ} → ChartOutcome jobBytes jobLine words depths answer words′ depths′ →
@@ -122,7 +118,7 @@ module _ {words depths : List ℕ} (memory : JobMemory words depths) where
   unfolding jobGrammar jobLine
   job-outcome o =
       let filled = job-filled o in (
-        chart-answered jobBytes jobLine words depths jobSections job-passes job-memory o .0 ∙ rw (job-grammar, job-rounds, job-facts),
+        chart-answered jobBytes jobLine words depths jobSections job-passes o .0 ∙ rw (job-grammar, job-rounds, job-facts),
         row-is jobGrammar jobLine job-proper 0 1 _ (filled .word 0 1 (omega arith) (omega arith)) 84 (omega arith) job-row,
         depthIs-unique (filled .depth 0 1 6 (omega arith) (omega arith) (omega arith)) (deep job-deep),
       )
@@ -132,15 +128,15 @@ module _ {words depths : List ℕ} (memory : JobMemory words depths) where
       (answer ≡ chart.Filled 0 0) × ((q : ℕ) → 1 ≤ q → getD words′ q 0 ≡ getD words q 0)
   unfolding jobGrammar
   empty-outcome o =
-      let e = chart-answered jobBytes [] words depths jobSections empty-passes empty-memory o in
+      let e = chart-answered jobBytes [] words depths jobSections empty-passes o in
       let filled : WorkFilled jobGrammar [] words depths _ _ = rw job-grammar at (e .1) in
       (e .0 ∙ rw (job-grammar, empty-rounds, empty-facts), filled .words-past)
 
   -- the row of (0, 1) is 84, three ends, smallest 2
   pub job-ends : {answer : EndsAnswer} {words′ depths′ : List ℕ} → EndsOutcome jobBytes jobLine 0 1 words depths answer words′ depths′ → answer ≡ ends.Row 84 3 2
-  unfolding jobLine startCheck
+  unfolding jobLine
   job-ends o =
-      let e = ends-answered jobBytes jobLine words depths jobSections job-passes job-memory 0 1 refl o in
+      let e = ends-answered jobBytes jobLine words depths jobSections 0 1 start-passes o in
       let row = row-is jobGrammar jobLine job-proper 0 1 (e .0) (rw job-grammar at (e .3)) 84 (omega arith) job-row in
       let smallest = first-unique 84 (e .1) 2 (rw row at (e .4)) job-smallest in
       e .2 ∙ rw (row, smallest, job-count)

@@ -9,21 +9,21 @@ use Rattle.refusals.specs.Order.{early}
 use Rattle.positions.specs.Count.{countBelow}
 use Rattle.positions.specs.First.{First}
 use Rattle.derivation.specs.FactCount.{total}
-use Rattle.checks.specs.Question.{startCheck}
-use Rattle.checks.specs.Memory.{chartSize, workCheck}
+use Rattle.checks.specs.declared.Asked.the-variants.{Nothing, Start}
+use Rattle.checks.specs.Memory.{chartSize}
 use Rattle.grammar.specs.declared.reading.Sections.{Sections}
 use Rattle.grammar.specs.Value.{grammarOf}
 use Rattle.grammar.proofs.Encoded.{category-count, sections-proper}
 use Rattle.filling.specs.Filled.{WorkFilled, Filled}
 use Rattle.chart.specs.declared.EndsAnswer.the-variants as ends
 use Rattle.chart.specs.declared.ChartAnswer.the-variants as chart
-use Rattle.chart.specs.Checks.{chartChecks, endsQuestion, endsChecks}
+use Rattle.chart.specs.Checks.{chartChecks, endsChecks}
 use Rattle.chart.specs.ChartOutcome.{ChartOutcome}
 use Rattle.chart.specs.ChartOutcome as chart-outcome
 use Rattle.chart.specs.EndsOutcome.{EndsOutcome}
 use Rattle.chart.specs.EndsOutcome as ends-outcome
 use Rattle.chart.proofs.CountLaws.{facts-counted}
-use Rattle.chart.proofs.CheckLaws.{Passes, sections, line-is, grammar-is, question-is, early-passed}
+use Rattle.chart.proofs.CheckLaws.{Passes, sections, line-is, grammar-is, early-passed}
 
 module _ (g line words depths : List ℕ) where
   pub chart-turned : (refusal : Refusal) → early (chartChecks g line words depths) ≡ check.Refused refusal → ChartOutcome g line words depths (chart.Refused refusal) words depths
@@ -32,34 +32,33 @@ module _ (g line words depths : List ℕ) where
   pub ends-turned : (A i : ℕ) (refusal : Refusal) → early (endsChecks g line A i words depths) ≡ check.Refused refusal → EndsOutcome g line A i words depths (ends.Refused refusal) words depths
   ends-turned A i refusal e = ends-outcome.turnedDown {refusal = refusal} (rw e) refl refl refl refl
 
-  module _ (s : Sections) (passes : Passes g line s) (memory : workCheck (s .categories) (length line) (length words) (length depths) ≡ check.Passed) where
-    pub ends-found :
-        (A i smallest : ℕ) (words′ depths′ : List ℕ) → startCheck (s .categories) (length line) A i ≡ check.Passed → A < s .categories → i ≤ length line →
-        WorkFilled (grammarOf g s) line words depths words′ depths′ → First (getD words′ (A * (length line + 1) + i) 0) smallest →
-        let row = getD words′ (A * (length line + 1) + i) 0 in
-        EndsOutcome g line A i words depths (ends.Row row (countBelow 64 row) smallest) words′ depths′
-    ends-found A i smallest words′ depths′ question a l filled first =
-        let row = getD words′ (A * (length line + 1) + i) 0 in
-        let same = grammar-is g line s passes in
-        ends-outcome.found {row = row} {count = countBelow 64 row} {smallest = smallest}
-        (rw (early-passed g line s passes words depths (endsQuestion g line A i) check.Passed check.Passed (question-is g line s passes A i question) memory))
-        refl
-        (rw same (filled .word A i (rw (category-count g s (sections g line s passes)) a) l))
-        refl
-        first
-        (rw same filled)
+  pub ends-found :
+      (s : Sections) (A i smallest : ℕ) (words′ depths′ : List ℕ) → Passes g line (Start A i) (length words) (length depths) s → A < s .categories → i ≤ length line →
+      WorkFilled (grammarOf g s) line words depths words′ depths′ → First (getD words′ (A * (length line + 1) + i) 0) smallest →
+      let row = getD words′ (A * (length line + 1) + i) 0 in
+      EndsOutcome g line A i words depths (ends.Row row (countBelow 64 row) smallest) words′ depths′
+  ends-found s A i smallest words′ depths′ passes a l filled first =
+      let row = getD words′ (A * (length line + 1) + i) 0 in
+      let same = grammar-is passes in
+      ends-outcome.found {row = row} {count = countBelow 64 row} {smallest = smallest}
+      (rw (early-passed words depths check.Passed check.Passed passes))
+      refl
+      (rw same (filled .word A i (rw (category-count g s (sections passes)) a) l))
+      refl
+      first
+      (rw same filled)
 
-    pub chart-filled :
-        (rounds facts : ℕ) (words′ depths′ : List ℕ) → Filled (grammarOf g s) line words depths words′ depths′ rounds →
-        facts ≡ total (λ q. countBelow 64 (getD words′ q 0)) (chartSize (s .categories) (length line)) →
-        ChartOutcome g line words depths (chart.Filled rounds facts) words′ depths′
-    chart-filled rounds facts words′ depths′ filled counted =
-        let read = sections g line s passes in
-        let same = grammar-is g line s passes in
-        let count = facts-counted (grammarOf g s) line words depths words′ depths′ (sections-proper g s read) (line-is g line s passes .short) (filled .work) in
-        chart-outcome.filled {rounds = rounds} {facts = facts}
-        (rw (early-passed g line s passes words depths check.Passed check.Passed check.Passed refl memory))
-        refl
-        (rw same (filled .most))
-        (rw same (counted ∙ (rw (category-count g s read) at count)))
-        (rw same (filled .work))
+  pub chart-filled :
+      (s : Sections) (rounds facts : ℕ) (words′ depths′ : List ℕ) → Passes g line Nothing (length words) (length depths) s → Filled (grammarOf g s) line words depths words′ depths′ rounds →
+      facts ≡ total (λ q. countBelow 64 (getD words′ q 0)) (chartSize (s .categories) (length line)) →
+      ChartOutcome g line words depths (chart.Filled rounds facts) words′ depths′
+  chart-filled s rounds facts words′ depths′ passes filled counted =
+      let read = sections passes in
+      let same = grammar-is passes in
+      let count = facts-counted (grammarOf g s) line words depths words′ depths′ (sections-proper g s read) (line-is passes .short) (filled .work) in
+      chart-outcome.filled {rounds = rounds} {facts = facts}
+      (rw (early-passed words depths check.Passed check.Passed passes))
+      refl
+      (rw same (filled .most))
+      (rw same (counted ∙ (rw (category-count g s read) at count)))
+      (rw same (filled .work))

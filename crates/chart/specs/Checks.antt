@@ -9,35 +9,40 @@ use Rattle.refusals.specs.declared.Check.the-variants.{Passed}
 use Rattle.refusals.specs.Order.{Checks}
 use Rattle.derivation.specs.Grammar.{Grammar}
 use Rattle.derivation.specs.RoundsOf.{roundsOf}
+use Rattle.checks.specs.declared.Asked.{Asked}
+use Rattle.checks.specs.declared.Asked.the-variants.{Nothing, Start}
 use Rattle.checks.specs.Line.{lineCheck}
-use Rattle.checks.specs.Question.{refuseIf, startCheck}
+use Rattle.checks.specs.Question.{refuseIf, askedCheck}
 use Rattle.checks.specs.Memory.{workCheck}
-use Rattle.grammar.specs.Given.{grammarCheck, sectionsGiven, grammarGiven}
+use Rattle.grammar.specs.declared.reading.Reading.{Reading}
+use Rattle.grammar.specs.Reading.{readOf}
+use Rattle.grammar.specs.Given.{checkOf, sectionsIn, grammarGiven}
 
 -- a depth would pass 65,535
 abbrev pub depthCheck : Grammar → List ℕ → Check
 depthCheck G line = refuseIf (ltb 65535 (roundsOf G line)) DepthTooLarge
 
--- a question over grammar, line and work memory, with its own checks of its numbers, of a fact and of room
-abbrev pub checksOf : (g line words depths : List ℕ) → (question fact room : Check) → Checks
-checksOf g line words depths question fact room =
+-- a question over a reading and its grammar, a line and work memory: the numbers that it asks with, and its own checks of a fact and of room
+abbrev pub checksOn : Reading → Grammar → (line : List ℕ) → Asked → (words depths : List ℕ) → (fact room : Check) → Checks
+checksOn reading G line asked words depths fact room =
     record {
-      grammar = grammarCheck g;
-      line = lineCheck (sectionsGiven g .classes) line;
-      question = question;
-      memory = workCheck (sectionsGiven g .categories) (length line) (length words) (length depths);
-      filling = depthCheck (grammarGiven g) line;
+      grammar = checkOf reading;
+      line = lineCheck (sectionsIn reading .classes) line;
+      question = askedCheck (sectionsIn reading .categories) (length line) asked;
+      memory = workCheck (sectionsIn reading .categories) (length line) (length words) (length depths);
+      filling = depthCheck G line;
       fact = fact;
       room = room;
     }
 
--- the chart question has none of its own
+-- the same over grammar bytes
+abbrev pub checksOf : (g line : List ℕ) → Asked → (words depths : List ℕ) → (fact room : Check) → Checks
+checksOf g line asked words depths fact room = checksOn (readOf g) (grammarGiven g) line asked words depths fact room
+
+-- the chart question asks with no number
 abbrev pub chartChecks : (g line words depths : List ℕ) → Checks
-chartChecks g line words depths = checksOf g line words depths Passed Passed Passed
+chartChecks g line words depths = checksOf g line Nothing words depths Passed Passed
 
--- ends checks its category and its start
-abbrev pub endsQuestion : (g line : List ℕ) → (A i : ℕ) → Check
-endsQuestion g line A i = startCheck (sectionsGiven g .categories) (length line) A i
-
+-- ends asks with a category and a start
 abbrev pub endsChecks : (g line : List ℕ) → (A i : ℕ) → (words depths : List ℕ) → Checks
-endsChecks g line A i words depths = checksOf g line words depths (endsQuestion g line A i) Passed Passed
+endsChecks g line A i words depths = checksOf g line (Start A i) words depths Passed Passed

@@ -1,5 +1,5 @@
 pub mod Checks
-pub mod Prepared
+pub mod Checked
 pub mod Told
 pub mod ChartOutcome
 pub mod EndsOutcome

@@ -4,11 +4,9 @@ ghost use Rattle.chart.specs.EndsOutcome.{EndsOutcome};
 
 pub mod work; // work.rt: what every question checks and counts
 
-use checks::check_start;
-use checks::check_work;
+use checks::Asked;
 use filling::rounds::fill;
 use grammar::reading::Reading;
-use refusals::Check;
 use refusals::Refusal;
 
 // What the chart question answers.
@@ -27,18 +25,12 @@ pub enum EndsAnswer {
 pub fn chart(g: &[u8], line: &[u8], words: &mut [u64], depths: &mut [u16]) -> ChartAnswer
     ensures { λ r. ⌜ ChartOutcome (now (g .entry)) (now (line .entry)) (now (words .entry)) (now (depths .entry)) r (now (words .exit)) (now (depths .exit)) ⌝ }
 {
-    let s = match work::prepare(g, line) {
+    let s = match work::checked(g, line, Asked::Nothing, words.len(), depths.len()) {
         Reading::Refused(refusal) => return ChartAnswer::Refused(refusal),
         Reading::Accepted(s) => s,
     };
-    let categories = s.categories;
-    let n = line.len();
-    match check_work(categories, n, words.len(), depths.len()) {
-        Check::Refused(refusal) => return ChartAnswer::Refused(refusal),
-        Check::Passed => {}
-    }
     let rounds = fill(g, s, line, words, depths);
-    let facts = work::count_ends(words, categories * (n + 1));
+    let facts = work::count_ends(words, s.categories * (line.len() + 1));
     ChartAnswer::Filled { rounds, facts }
 }
 
@@ -53,22 +45,13 @@ pub fn ends(
 ) -> EndsAnswer
     ensures { λ r. ⌜ EndsOutcome (now (g .entry)) (now (line .entry)) category start (now (words .entry)) (now (depths .entry)) r (now (words .exit)) (now (depths .exit)) ⌝ }
 {
-    let s = match work::prepare(g, line) {
+    let asked = Asked::Start { category, start };
+    let s = match work::checked(g, line, asked, words.len(), depths.len()) {
         Reading::Refused(refusal) => return EndsAnswer::Refused(refusal),
         Reading::Accepted(s) => s,
     };
-    let categories = s.categories;
-    let n = line.len();
-    match check_start(categories, n, category, start) {
-        Check::Refused(refusal) => return EndsAnswer::Refused(refusal),
-        Check::Passed => {}
-    }
-    match check_work(categories, n, words.len(), depths.len()) {
-        Check::Refused(refusal) => return EndsAnswer::Refused(refusal),
-        Check::Passed => {}
-    }
     fill(g, s, line, words, depths);
-    let row = words[category * (n + 1) + start];
+    let row = words[category * (line.len() + 1) + start];
     EndsAnswer::Row {
         row,
         ends: positions::count(row),

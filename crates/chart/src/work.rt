@@ -4,24 +4,26 @@ ghost use Prim.Native.Nat.{_≤_};
 ghost use lib.ListN.{length, getD};
 ghost use Rattle.positions.specs.Count.{countBelow};
 ghost use Rattle.derivation.specs.FactCount.{total};
-ghost use Rattle.chart.specs.Prepared.{prepared};
-use checks::check_chart;
-use checks::check_depths;
-use checks::check_line;
+ghost use Rattle.grammar.specs.Reading.{readOf};
+ghost use Rattle.chart.specs.Checked.{checkedOf};
+use checks::Asked;
+use checks::check_rest;
 use grammar::reading::Reading;
 use grammar::reading::read;
 use refusals::Check;
 
-// The grammar is read, then the line is checked.
-pub fn prepare(g: &[u8], line: &[u8]) -> Reading
-    ensures { λ r. ⌜ r ≡ prepared (now (g .entry)) (now (line .entry)) ⌝ }
+// The first checks of every question: the grammar is read, then the line, the question's numbers and the work memory are checked.
+pub fn checked(g: &[u8], line: &[u8], asked: Asked, words: usize, numbers: usize) -> Reading
+    ensures { λ r. ⌜ r ≡ checkedOf (readOf (now (g .entry))) (now (line .entry)) asked words numbers ⌝ }
 {
     match read(g) {
         Reading::Refused(refusal) => Reading::Refused(refusal),
-        Reading::Accepted(s) => match check_line(s.classes, line) {
-            Check::Refused(refusal) => Reading::Refused(refusal),
-            Check::Passed => Reading::Accepted(s),
-        },
+        Reading::Accepted(s) => {
+            match check_rest(s.classes, s.categories, line, asked, words, numbers) {
+                Check::Refused(refusal) => Reading::Refused(refusal),
+                Check::Passed => Reading::Accepted(s),
+            }
+        }
     }
 }
 

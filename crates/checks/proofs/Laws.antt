@@ -12,12 +12,12 @@ use lib.Dec.{ltb, leb}
 use borrow.Author.Count.{below-more}
 use borrow.Author.Tests.{lt-ltb, le-ltb, ltb-true, ltb-false, leb-false}
 use Rattle.refusals.specs.declared.Refusal.{Refusal}
-use Rattle.refusals.specs.declared.Refusal.the-variants.{LineTooLong, TokenNoClass, CategoryOutside, StartOutside, ChartTooSmall, DepthsTooSmall}
+use Rattle.refusals.specs.declared.Refusal.the-variants.{LineTooLong, TokenNoClass, CategoryOutside, StartOutside, EndOutside, ChartTooSmall, DepthsTooSmall}
 use Rattle.refusals.specs.declared.Check.{Check}
 use Rattle.refusals.specs.declared.Check.the-variants.{Passed, Refused}
 use Rattle.refusals.specs.Order.{andThen, Checks, early, late, reported}
 use Rattle.checks.specs.Line.{IsLine, FirstNoClass, LineOutcome, tooLong, badToken, isLine, tokensFrom, lineCheck}
-use Rattle.checks.specs.Question.{refuseIf, startCheck}
+use Rattle.checks.specs.Question.{refuseIf, startCheck, spanCheck}
 use Rattle.checks.specs.Memory.{chartSize, depthsSize, chartCheck, depthsCheck, workCheck}
 
 -- the sizes of the work memory are small
@@ -43,6 +43,16 @@ both-passed (Refused refusal) b e = absurd (never e)
     never : Refused refusal ≡ Passed → ⊥
     never h = let z : _≡_ {A = ℕ} 0 1 = cc in omega arith
 
+-- what three checks refuse, they refuse with more behind them; and where they pass, it is for what is behind
+pub refused-before : (a b c d : Check) {refusal : Refusal} → andThen a (andThen b c) ≡ Refused refusal → andThen a (andThen b (andThen c d)) ≡ Refused refusal
+refused-before (Refused x) b c d e = e
+refused-before Passed (Refused x) c d e = e
+refused-before Passed Passed (Refused x) d e = e
+refused-before Passed Passed Passed d e = absurd (let z : _≡_ {A = ℕ} 0 1 = cc in omega arith)
+
+pub passed-before : (a b c d : Check) → andThen a (andThen b c) ≡ Passed → andThen a (andThen b (andThen c d)) ≡ d
+passed-before a b c d e = let p = both-passed a (andThen b c) e in let q = both-passed b c (p .1) in rw (p .0, q .0, q .1)
+
 pub reported-passed : (c : Checks) → reported c ≡ Passed → (early c ≡ Passed) × (late c ≡ Passed)
 reported-passed c e = both-passed (early c) (late c) e
 
@@ -67,6 +77,15 @@ unfolding startCheck
 start-passed categories n A i e =
     let p = both-passed (refuseIf (leb categories A) CategoryOutside) (refuseIf (ltb n i) StartOutside) e in
     (leb-false _ _ (no-fault (leb categories A) CategoryOutside (p .0)), ltb-false _ _ (no-fault (ltb n i) StartOutside (p .1)))
+
+-- and so are a category and a span
+pub span-passed : (categories n A i j : ℕ) → spanCheck categories n A i j ≡ Passed → (A < categories) × (i ≤ n) × (j ≤ n)
+unfolding spanCheck
+span-passed categories n A i j e =
+    let p = both-passed (startCheck categories n A i) _ e in
+    let q = both-passed (refuseIf (ltb n j) EndOutside) (refuseIf (ltb j i) EndOutside) (p .1) in
+    let s = start-passed categories n A i (p .0) in
+    (s .0, s .1, ltb-false n j (no-fault (ltb n j) EndOutside (q .0)))
 
 -- memory that passes is large enough
 pub work-passed : (categories n words numbers : ℕ) → workCheck categories n words numbers ≡ Passed → (chartSize categories n ≤ words) × (depthsSize categories n ≤ numbers)

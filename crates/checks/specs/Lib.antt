@@ -1,3 +1,4 @@
 pub mod Line
 pub mod Question
 pub mod Memory
+pub mod Rest

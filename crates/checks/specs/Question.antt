@@ -7,6 +7,8 @@ use Rattle.refusals.specs.declared.Refusal.the-variants.{CategoryOutside, Start
 use Rattle.refusals.specs.declared.Check.{Check}
 use Rattle.refusals.specs.declared.Check.the-variants.{Passed, Refused}
 use Rattle.refusals.specs.Order.{andThen}
+use Rattle.checks.specs.declared.Asked.{Asked}
+use Rattle.checks.specs.declared.Asked.the-variants.{Nothing, Start, Span}
 
 -- a refusal where the fault is there
 abbrev pub refuseIf : Bool → Refusal → Check
@@ -21,3 +23,9 @@ unfoldable pub spanCheck : ℕ → ℕ → ℕ → ℕ → ℕ → Check
 spanCheck categories n A i j =
     andThen (startCheck categories n A i)
     (andThen (refuseIf (ltb n j) EndOutside) (refuseIf (ltb j i) EndOutside))
+
+-- the numbers that a question asks with, if any
+abbrev pub askedCheck : ℕ → ℕ → Asked → Check
+askedCheck categories n Nothing = Passed
+askedCheck categories n (Start A i) = startCheck categories n A i
+askedCheck categories n (Span A i j) = spanCheck categories n A i j

@@ -2,10 +2,25 @@
 ghost use mathlib.Core.Path.{_≡_};
 ghost use Prim.Native.Nat.{_≤_};
 ghost use Rattle.checks.specs.Line.{lineCheck};
-ghost use Rattle.checks.specs.Question.{startCheck, spanCheck};
+ghost use Rattle.checks.specs.Question.{startCheck, spanCheck, askedCheck};
 ghost use Rattle.checks.specs.Memory.{chartCheck, depthsCheck, workCheck};
+ghost use Rattle.checks.specs.Rest.{restCheck};
 use refusals::Check;
 use refusals::Refusal;
+
+// The numbers that a question asks with: none, a category and a start, a category and a span.
+pub enum Asked {
+    Nothing,
+    Start {
+        category: usize,
+        start: usize,
+    },
+    Span {
+        category: usize,
+        start: usize,
+        end: usize,
+    },
+}
 
 // At most 63 tokens, each below the number of classes.
 pub fn check_line(classes: usize, line: &[u8]) -> Check
@@ -25,7 +40,7 @@ pub fn check_line(classes: usize, line: &[u8]) -> Check
 }
 
 // A category of the grammar, and a start on a line of n tokens.
-pub fn check_start(categories: usize, n: usize, category: usize, start: usize) -> Check
+fn check_start(categories: usize, n: usize, category: usize, start: usize) -> Check
     ensures { λ r. ⌜ r ≡ startCheck categories n category start ⌝ }
 {
     if categories <= category {
@@ -38,7 +53,7 @@ pub fn check_start(categories: usize, n: usize, category: usize, start: usize) -
 }
 
 // A category of the grammar, and a span of a line of n tokens.
-pub fn check_span(categories: usize, n: usize, category: usize, start: usize, end: usize) -> Check
+fn check_span(categories: usize, n: usize, category: usize, start: usize, end: usize) -> Check
     ensures { λ r. ⌜ r ≡ spanCheck categories n category start end ⌝ }
 {
     match check_start(categories, n, category, start) {
@@ -52,6 +67,21 @@ pub fn check_span(categories: usize, n: usize, category: usize, start: usize, en
         return Check::Refused(Refusal::EndOutside);
     }
     Check::Passed
+}
+
+// What a question asks with, on a line of n tokens.
+pub fn check_asked(categories: usize, n: usize, asked: Asked) -> Check
+    ensures { λ r. ⌜ r ≡ askedCheck categories n asked ⌝ }
+{
+    match asked {
+        Asked::Nothing => Check::Passed,
+        Asked::Start { category, start } => check_start(categories, n, category, start),
+        Asked::Span {
+            category,
+            start,
+            end,
+        } => check_span(categories, n, category, start, end),
+    }
 }
 
 // Chart memory for a line of n tokens.
@@ -84,5 +114,27 @@ pub fn check_work(categories: usize, n: usize, words: usize, numbers: usize) -> 
     match check_chart(categories, n, words) {
         Check::Refused(refusal) => Check::Refused(refusal),
         Check::Passed => check_depths(categories, n, numbers),
+    }
+}
+
+// What is left to check once a grammar of so many classes and categories is read: the line, the question's numbers, the work memory.
+pub fn check_rest(
+    classes: usize,
+    categories: usize,
+    line: &[u8],
+    asked: Asked,
+    words: usize,
+    numbers: usize,
+) -> Check
+    requires { ⌜ categories ≤ 32 ⌝ }
+    ensures { λ r. ⌜ r ≡ restCheck classes categories (now (line .entry)) asked words numbers ⌝ }
+{
+    match check_line(classes, line) {
+        Check::Refused(refusal) => return Check::Refused(refusal),
+        Check::Passed => {}
+    }
+    match check_asked(categories, line.len(), asked) {
+        Check::Refused(refusal) => Check::Refused(refusal),
+        Check::Passed => check_work(categories, line.len(), words, numbers),
     }
 }

@@ -1,15 +1,16 @@
--- `chart::work::prepare` meets its contract: what the reading and the check of the line gave says which case of `prepared` holds.
+-- `chart::work::checked` meets its contract: what the reading and the other checks gave says which case of `checkedOf` holds.
 use borrow.Author.Needs.{needs}
 use mathlib.Core.Path.{_≡_, sym, _∙_}
 use denote.Ref.{now}
 use Rattle.grammar.specs.declared.reading.Reading.the-variants.{Accepted}
 use Rattle.grammar.specs.Reading.{readOf}
-use Rattle.chart.proofs.work.prepare.Statement.{statement}
-use Rattle.chart.proofs.work.prepare.Tie as tie
+use Rattle.grammar.proofs.Accepted.{accepted, whole}
+use Rattle.chart.proofs.work.checked.Statement.{statement}
+use Rattle.chart.proofs.work.checked.Tie as tie
 
 -- the grammar was accepted
-accepted : (c : tie.After-s) → readOf (now (c .before .before .before .before .before .args .g)) ≡ Accepted (c .s .given .0 .0)
-accepted c = sym (c .before .before .read .ensures) ∙ c .s .given .1
+was-read : (c : tie.After-s) → readOf (now (c .before .before .before .before .before .args .g)) ≡ Accepted (c .s .given .0 .0)
+was-read c = sym (c .before .before .read .ensures) ∙ c .s .given .1
 
 read-requires : tie.Need-read-requires
 read-requires c κs = search needs
@@ -20,8 +21,8 @@ enum-known-refusal c = search needs
 enum-known-s : tie.Need-enum-known-s
 enum-known-s c = search needs
 
-check-line-requires : tie.Need-check-line-requires
-check-line-requires c κs = search needs
+check-rest-requires : tie.Need-check-rest-requires
+check-rest-requires c κs = let read = was-read (c .before) in whole _ _ (accepted _ _ read .0) .categories-high
 
 enum-known-refusal-2 : tie.Need-enum-known-refusal-2
 enum-known-refusal-2 c = search needs
@@ -35,21 +36,21 @@ returns c = simp (sym (c .before .before .before .read .ensures) ∙ c .before .
 returns-2 : tie.Need-returns-2
 returns-2 c =
     let l = c .before .before .before in
-    simp (accepted (l .before .before), sym (l .check-line .ensures) ∙ c .before .refusal2 .given .1)
+    simp (was-read (l .before .before), sym (l .check-rest .ensures) ∙ c .before .refusal2 .given .1)
 
 returns-3 : tie.Need-returns-3
 returns-3 c =
     let l = c .before .before in
-    simp (accepted (l .before .before), sym (l .check-line .ensures) ∙ c .enum-told .given .1)
+    simp (was-read (l .before .before), sym (l .check-rest .ensures) ∙ c .enum-told .given .1)
 
-pub prepare-spec : {M : Type 1} → statement M
-prepare-spec =
+pub checked-spec : {M : Type 1} → statement M
+checked-spec =
     tie.close
     (tie.spec
     read-requires
     enum-known-refusal
     enum-known-s
-    check-line-requires
+    check-rest-requires
     enum-known-refusal-2
     enum-told
     returns

@@ -1,0 +1,43 @@
+-- `checks::check_asked` meets its contract: each kind of question has its own check.
+use mathlib.Core.Path.{sym, ap, _∙_}
+use borrow.Author.Needs.{needs}
+use Rattle.checks.specs.Question.{askedCheck}
+use Rattle.checks.proofs.check_asked.Statement.{statement}
+use Rattle.checks.proofs.check_asked.Tie as tie
+
+enum-told : tie.Need-enum-told
+enum-told c = search needs
+
+enum-known-asked : tie.Need-enum-known-asked
+enum-known-asked c = search needs
+
+check-start-requires : tie.Need-check-start-requires
+check-start-requires c κs = search needs
+
+enum-known-asked-2 : tie.Need-enum-known-asked-2
+enum-known-asked-2 c = search needs
+
+check-span-requires : tie.Need-check-span-requires
+check-span-requires c κs = search needs
+
+returns : tie.Need-returns
+returns c = search needs
+
+returns-2 : tie.Need-returns-2
+returns-2 c = c .check-start .ensures ∙ sym (ap (askedCheck _ _) (c .before .before .asked .given .1))
+
+returns-3 : tie.Need-returns-3
+returns-3 c = c .check-span .ensures ∙ sym (ap (askedCheck _ _) (c .before .before .asked2 .given .1))
+
+pub check-asked-spec : {M : Type 1} → statement M
+check-asked-spec =
+    tie.close
+    (tie.spec
+    enum-told
+    enum-known-asked
+    check-start-requires
+    enum-known-asked-2
+    check-span-requires
+    returns
+    returns-2
+    returns-3)
