@@ -11,6 +11,7 @@ use Rattle.refusals.specs.declared.Check.the-variants as check
 use Rattle.refusals.specs.Row.{rowOf}
 use Rattle.refusals.specs.Order.{Checks, early, late, reported}
 use Rattle.refusals.specs.Told as told
+use Rattle.checks.specs.declared.Asked.the-variants.{Nothing}
 use Rattle.checks.specs.Question.{refuseIf}
 use Rattle.grammar.specs.Given.{grammarGiven}
 use Rattle.filling.specs.Filled.{WorkFilled}
@@ -26,7 +27,7 @@ marksRoom line marks = refuseIf (ltb (length marks) (length line)) (MarksTooSmal
 
 -- marks checks its room
 abbrev pub marksChecks : (g line words depths marks : List ℕ) → Checks
-marksChecks g line words depths marks = checksOf g line words depths check.Passed check.Passed (marksRoom line marks)
+marksChecks g line words depths marks = checksOf g line Nothing words depths check.Passed (marksRoom line marks)
 
 pub data MarksOutcome (g line words depths marks : List ℕ) (answer : MarksAnswer) (words′ depths′ marks′ : List ℕ) : Type 0 where
   -- 1 to 9 and 12 are told by number and place, and no lent memory changes

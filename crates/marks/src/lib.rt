@@ -5,14 +5,13 @@ ghost use Rattle.checks.specs.Line.{IsLine};
 ghost use Rattle.grammar.specs.Value.{Sectioned, grammarOf};
 ghost use Rattle.marks.specs.Marks.{ChartHolds, RowReaches, Reaches, MarksAre};
 ghost use Rattle.marks.specs.Outcome.{MarksOutcome};
-use chart::work::prepare;
-use checks::check_work;
+use chart::work::checked;
+use checks::Asked;
 use filling::rounds::fill;
 use grammar::reading::Reading;
 use grammar::reading::Sections;
 use grammar::rules::category_flag;
 use grammar::rules::class_flag;
-use refusals::Check;
 use refusals::Refusal;
 
 // What the marks question answers: how many tokens are secret.
@@ -85,14 +84,10 @@ pub fn marks(
 ) -> MarksAnswer
     ensures { λ r. ⌜ MarksOutcome (now (g .entry)) (now (line .entry)) (now (words .entry)) (now (depths .entry)) (now (marks .entry)) r (now (words .exit)) (now (depths .exit)) (now (marks .exit)) ⌝ }
 {
-    let s = match prepare(g, line) {
+    let s = match checked(g, line, Asked::Nothing, words.len(), depths.len()) {
         Reading::Refused(refusal) => return MarksAnswer::Refused(refusal),
         Reading::Accepted(s) => s,
     };
-    match check_work(s.categories, line.len(), words.len(), depths.len()) {
-        Check::Refused(refusal) => return MarksAnswer::Refused(refusal),
-        Check::Passed => {}
-    }
     fill(g, s, line, words, depths);
     if marks.len() < line.len() {
         return MarksAnswer::Refused(Refusal::MarksTooSmall { needed: line.len() });
