@@ -9,15 +9,15 @@ use Rattle.refusals.specs.declared.Refusal.the-variants.{ForestTooSmall}
 use Rattle.refusals.specs.declared.Check.the-variants as check
 use Rattle.refusals.specs.Order.{early}
 use Rattle.derivation.specs.Branch as derivation
-use Rattle.checks.specs.Memory.{workCheck}
-use Rattle.checks.proofs.Laws.{work-passed, too-small, large-enough}
+use Rattle.checks.specs.declared.Asked.the-variants.{Nothing}
+use Rattle.checks.proofs.Laws.{too-small, large-enough}
 use Rattle.grammar.specs.declared.reading.Sections.{Sections}
 use Rattle.grammar.specs.declared.reading.Reading.the-variants.{Accepted}
 use Rattle.grammar.specs.Value.{grammarOf, startOf}
 use Rattle.grammar.specs.Given.{sectionsIn, sectionsGiven, grammarGiven}
 use Rattle.grammar.proofs.Accepted.{start-none}
 use Rattle.filling.specs.Filled.{WorkFilled}
-use Rattle.chart.proofs.CheckLaws.{Passes, line-is, grammar-is, early-passed}
+use Rattle.chart.proofs.CheckLaws.{Passes, line-is, grammar-is, memory-is, early-passed}
 use Rattle.forest.specs.declared.Cursor.{Cursor}
 use Rattle.forest.specs.declared.Plan.{Plan}
 use Rattle.forest.specs.declared.ForestAnswer.the-variants.{Records, Refused}
@@ -36,25 +36,24 @@ pub plan-turned : (g line words depths : List ℕ) (room : ℕ) (first : Cursor)
     Planned g line words depths room words depths (plan-of 0 first refusal)
 plan-turned g line words depths room first refusal e = turnedDown {refusal = refusal} e refl refl refl refl
 
-module _ (g line words depths : List ℕ) (room : ℕ) (s : Sections) (passes : Passes g line s) (memory : workCheck (s .categories) (length line) (length words) (length depths) ≡ check.Passed)
-    (words′ depths′ : List ℕ) (filled : WorkFilled (grammarOf g s) line words depths words′ depths′) where
+module _ (g line words depths : List ℕ) (room : ℕ) (s : Sections) (passes : Passes g line Nothing (length words) (length depths) s) (words′ depths′ : List ℕ) (filled : WorkFilled (grammarOf g s) line words depths words′ depths′) where
   pub sections-are : s ≡ sectionsGiven g
   sections-are = sym (ap sectionsIn (passes .read))
 
   work : WorkFilled (grammarGiven g) line words depths words′ depths′
-  work = rw (grammar-is g line s passes) filled
+  work = rw (grammar-is passes) filled
 
   pub charted : Charted g line words′
   charted =
       record {
         read = passes .read ∙ ap (λ (s : Sections). Accepted s) sections-are;
-        isLine = rw (← sections-are) (line-is g line s passes);
-        room = rw (← sections-are) (omega (arith, work-passed (s .categories) (length line) (length words) (length depths) memory .0, filled .words-long));
+        isLine = rw (← sections-are) (line-is passes);
+        room = rw (← sections-are) (omega (arith, memory-is passes .0, filled .words-long));
         word = work .word;
       }
 
   passed : early (forestChecks g line words depths room) ≡ check.Passed
-  passed = early-passed g line s passes words depths check.Passed check.Passed (roomCheck (grammarGiven g) line room) refl memory
+  passed = early-passed words depths check.Passed (roomCheck (grammarGiven g) line room) passes
 
   pub first-stands : s .first ≡ startOf g 0 (sectionsGiven g .first)
   first-stands = ap (λ (s : Sections). s .first) sections-are ∙ sym (start-none g (sectionsGiven g .first))

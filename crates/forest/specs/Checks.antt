@@ -9,6 +9,7 @@ use Rattle.refusals.specs.declared.Check.the-variants.{Passed}
 use Rattle.refusals.specs.Order.{Checks}
 use Rattle.derivation.specs.Grammar.{Grammar}
 use Rattle.derivation.specs.Forest.{forest}
+use Rattle.checks.specs.declared.Asked.the-variants.{Nothing}
 use Rattle.checks.specs.Question.{refuseIf}
 use Rattle.grammar.specs.Given.{grammarGiven}
 use Rattle.chart.specs.Checks.{checksOf}
@@ -22,4 +23,4 @@ abbrev pub roomCheck : Grammar → List ℕ → ℕ → Check
 roomCheck G line room = refuseIf (ltb room (recordCount G line)) (ForestTooSmall (recordCount G line))
 
 abbrev pub forestChecks : (g line words depths : List ℕ) → (room : ℕ) → Checks
-forestChecks g line words depths room = checksOf g line words depths Passed Passed (roomCheck (grammarGiven g) line room)
+forestChecks g line words depths room = checksOf g line Nothing words depths Passed (roomCheck (grammarGiven g) line room)

@@ -13,10 +13,10 @@ mod ends; // ends.rt: where a symbol and where a rule's first symbols can end
 mod count; // count.rt: the number of records
 mod seek; // seek.rt: the first record from some place on
 
-use checks::check_work;
+use chart::work::checked;
+use checks::Asked;
 use filling::rounds::fill as fill_chart;
 use grammar::reading::Reading;
-use refusals::Check;
 use refusals::Refusal;
 
 // A record of the forest: the first place - 1 symbols of the rule derive start..middle and the symbol at the place derives middle..end.
@@ -93,7 +93,7 @@ fn prepare(g: &[u8], line: &[u8], words: &mut [u64], depths: &mut [u16], room: u
         middles: 0,
         ends: 0,
     };
-    let s = match chart::work::prepare(g, line) {
+    let s = match checked(g, line, Asked::Nothing, words.len(), depths.len()) {
         Reading::Refused(refusal) => {
             return Plan {
                 n: 0,
@@ -103,16 +103,6 @@ fn prepare(g: &[u8], line: &[u8], words: &mut [u64], depths: &mut [u16], room: u
         }
         Reading::Accepted(s) => s,
     };
-    match check_work(s.categories, line.len(), words.len(), depths.len()) {
-        Check::Refused(refusal) => {
-            return Plan {
-                n: 0,
-                first: blank,
-                answer: ForestAnswer::Refused(refusal),
-            }
-        }
-        Check::Passed => {}
-    }
     fill_chart(g, s, line, words, depths);
     let count = count::count_records(g, s, line, words);
     if room < count {
