@@ -10,13 +10,11 @@ use Rattle.refusals.specs.Order.{Checks}
 use Rattle.derivation.specs.Grammar.{Grammar}
 use Rattle.derivation.specs.Facts.{facts}
 use Rattle.derivation.specs.Shown.{shown}
-use Rattle.checks.specs.Question.{refuseIf, spanCheck}
-use Rattle.grammar.specs.Given.{sectionsGiven, grammarGiven}
+use Rattle.checks.specs.declared.Asked.the-variants.{Span}
+use Rattle.checks.specs.Question.{refuseIf}
+use Rattle.grammar.specs.Given.{grammarGiven}
 use Rattle.chart.specs.Checks.{checksOf}
 use Rattle.tree.specs.Bytes.{bytes}
-
-abbrev pub treeQuestion : (g line : List ℕ) → (A i j : ℕ) → Check
-treeQuestion g line A i j = spanCheck (sectionsGiven g .categories) (length line) A i j
 
 -- the tree is asked of no fact
 abbrev pub treeFact : Grammar → List ℕ → (A i j : ℕ) → Check
@@ -28,4 +26,4 @@ treeRoom G line A i j out = refuseIf (ltb (length out) (length (bytes (shown G l
 
 abbrev pub treeChecks : (g line : List ℕ) → (A i j : ℕ) → (words depths out : List ℕ) → Checks
 treeChecks g line A i j words depths out =
-    checksOf g line words depths (treeQuestion g line A i j) (treeFact (grammarGiven g) line A i j) (treeRoom (grammarGiven g) line A i j out)
+    checksOf g line (Span A i j) words depths (treeFact (grammarGiven g) line A i j) (treeRoom (grammarGiven g) line A i j out)

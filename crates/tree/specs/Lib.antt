@@ -4,7 +4,6 @@ pub mod Sets
 pub mod Searchable
 pub mod Counted
 pub mod Checks
-pub mod Checked
 pub mod Told
 pub mod Shows
 pub mod Outcome

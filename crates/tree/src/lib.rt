@@ -7,7 +7,6 @@ ghost use Rattle.grammar.specs.declared.reading.Reading.the-variants.{Accepted}
 ghost use Rattle.grammar.specs.Reading.{readOf};
 ghost use Rattle.grammar.specs.Given.{grammarGiven};
 ghost use Rattle.tree.specs.Kept.{Kept};
-ghost use Rattle.tree.specs.Checked.{checkedOf};
 ghost use Rattle.tree.specs.Shows.{Shows};
 ghost use Rattle.tree.specs.Outcome.{TreeOutcome};
 
@@ -17,16 +16,14 @@ pub mod node; // node.rt: a node, before it becomes bytes, and its bytes
 mod search; // search.rt: which rule a node uses
 mod writing; // writing.rt: a tree's nodes as bytes
 
-use chart::work::prepare;
-use checks::check_span;
-use checks::check_work;
+use chart::work::checked;
+use checks::Asked;
 use counting::count_nodes;
 use division::depth_at;
 use filling::rounds::fill;
 use grammar::reading::Reading;
 use grammar::reading::Sections;
 use grammar::view::rule_starts_of;
-use refusals::Check;
 use refusals::Refusal;
 use writing::write;
 
@@ -34,33 +31,6 @@ use writing::write;
 pub enum TreeAnswer {
     Nodes { count: usize },
     Refused(Refusal),
-}
-
-// The checks before the filling: grammar, line, span, work memory.
-fn checked(
-    g: &[u8],
-    line: &[u8],
-    category: usize,
-    start: usize,
-    end: usize,
-    words: usize,
-    numbers: usize,
-) -> Reading
-    ensures { λ r. ⌜ r ≡ checkedOf (now (g .entry)) (now (line .entry)) category start end words numbers ⌝ }
-{
-    let s = match prepare(g, line) {
-        Reading::Refused(refusal) => return Reading::Refused(refusal),
-        Reading::Accepted(s) => s,
-    };
-    let categories = s.categories;
-    match check_span(categories, line.len(), category, start, end) {
-        Check::Refused(refusal) => return Reading::Refused(refusal),
-        Check::Passed => {}
-    }
-    match check_work(categories, line.len(), words, numbers) {
-        Check::Refused(refusal) => Reading::Refused(refusal),
-        Check::Passed => Reading::Accepted(s),
-    }
 }
 
 // Counts the nodes of (A, i, j), and writes them where there is room.
@@ -105,7 +75,12 @@ pub fn tree(
 ) -> TreeAnswer
     ensures { λ r. ⌜ TreeOutcome (now (g .entry)) (now (line .entry)) category start end (now (words .entry)) (now (depths .entry)) (now (out .entry)) r (now (words .exit)) (now (depths .exit)) (now (out .exit)) ⌝ }
 {
-    let s = match checked(g, line, category, start, end, words.len(), depths.len()) {
+    let asked = Asked::Span {
+        category,
+        start,
+        end,
+    };
+    let s = match checked(g, line, asked, words.len(), depths.len()) {
         Reading::Refused(refusal) => return TreeAnswer::Refused(refusal),
         Reading::Accepted(s) => s,
     };

@@ -4,14 +4,29 @@ use mathlib.Core.Path.{sym, _∙_}
 use native.Mathlib.Omega.{arith}
 use lib.ListN.{length}
 use denote.Ref.{now}
-use Rattle.checks.specs.Memory.{depthsSize}
-use Rattle.checks.proofs.Laws.{work-passed}
-use Rattle.chart.proofs.CheckLaws.{sections, line-is}
-use Rattle.tree.proofs.CheckLaws.{AllPassed, checked-accepted, span-passed}
+use Rattle.checks.specs.declared.Asked.the-variants.{Span}
+use Rattle.checks.proofs.Laws.{span-passed}
+use Rattle.grammar.specs.Reading.{readOf}
+use Rattle.grammar.specs.Given.{grammarGiven}
+use Rattle.chart.proofs.CheckLaws.{Passes, checked-refused, checked-accepted, sections, line-is, asked-is, memory-is}
+use Rattle.tree.specs.Checks.{treeFact, treeRoom}
 use Rattle.tree.proofs.OutcomeLaws.{tree-turned, filled-kept, tree-shown}
 use borrow.Author.Needs.{needs}
 use Rattle.tree.proofs.tree.Statement.{statement}
 use Rattle.tree.proofs.tree.Tie as tie
+
+-- the function's entry, from where the checks have passed
+abbrev origin : tie.After-s → tie.Start
+origin c = c .before .before .before .before .before .before .before .before
+
+passes : (c : tie.After-s) →
+    let a = origin c .args in
+    Passes (now (a .g)) (now (a .line)) (Span (a .category) (a .start) (a .end)) (length (now (a .words))) (length (now (a .depths))) (c .s .given .0 .0)
+passes c = checked-accepted _ _ _ _ _ _ (sym (c .before .before .checked .ensures) ∙ c .s .given .1)
+
+-- the checks have passed, from where the memory is filled
+abbrev asked : tie.After-fill → tie.After-s
+asked c = c .before .before .before .before
 
 checked-requires : tie.Need-checked-requires
 checked-requires c κs = search needs
@@ -22,33 +37,25 @@ enum-known-refusal c = search needs
 returns : tie.Need-returns
 returns c =
     let a = c .before .before .before .before .before .before .before .before .before .args in
-    tree-turned _ _ _ _ _ (now (a .words)) (now (a .depths)) (now (a .out)) _ (sym (c .before .before .before .checked .ensures) ∙ c .before .refusal .given .1)
+    let asked = Span (a .category) (a .start) (a .end) in
+    let G = grammarGiven (now (a .g)) in
+    let fact = treeFact G (now (a .line)) (a .category) (a .start) (a .end) in
+    let room = treeRoom G (now (a .line)) (a .category) (a .start) (a .end) (now (a .out)) in
+    tree-turned _ _ _ _ _ _ _ _ _ (checked-refused (readOf (now (a .g))) G (now (a .line)) asked (now (a .words)) (now (a .depths)) fact room _ (sym (c .before .before .before .checked .ensures) ∙ c .before .refusal .given .1))
 
 enum-known-s : tie.Need-enum-known-s
 enum-known-s c = search needs
 
--- the first checks have passed
-passed : (c : tie.After-s) →
-    let a = c .before .before .before .before .before .before .before .before .args in
-    AllPassed (now (a .g)) (now (a .line)) (a .category) (a .start) (a .end) (now (a .words)) (now (a .depths)) (now (a .out)) (c .s .given .0 .0)
-passed c =
-    let a = c .before .before .before .before .before .before .before .before .args in
-    checked-accepted _ _ _ _ _ (now (a .words)) (now (a .depths)) (now (a .out)) _ (sym (c .before .before .checked .ensures) ∙ c .s .given .1)
-
 fill-requires : tie.Need-fill-requires
-fill-requires c κs =
-    let a = passed (c .before .before .before) in
-    let m = work-passed _ _ _ _ (a .work) in
-    (sections _ _ _ (a .passes), line-is _ _ _ (a .passes), m .0, m .1)
+fill-requires c κs = let p = passes (c .before .before .before) in (sections p, line-is p, memory-is p .0, memory-is p .1)
 
 show-requires : tie.Need-show-requires
 show-requires c κs =
-    let a = passed (c .before .before .before .before .before .before .before .before .before .before) in
-    let e = c .before .before .before .before .before .before .before .before .before .before .before .before .before .before .before .before .before .before .args in
-    let q = span-passed _ _ _ _ _ (a .span) in
-    let room : depthsSize (c .before .before .before .before .before .before .before .before .before .before .s .given .0 .0 .categories) (length (now (e .line))) ≤ length (now (e .depths)) = work-passed _ _ _ _ (a .work) .1 in
-    let filled = c .before .before .before .before .before .before .fill .ensures .work in
-    (a .passes .read, line-is _ _ _ (a .passes) .short, q .0, q .1, q .2, omega (arith, room, filled .depths-long), filled-kept _ _ _ _ _ _ _ _ _ a filled)
+    let filled = c .before .before .before .before .before .before in
+    let p = passes (asked filled) in
+    let span = span-passed _ _ _ _ _ (asked-is p) in
+    let work = filled .fill .ensures .work in
+    (p .read, line-is p .short, span .0, span .1, span .2, omega (arith, memory-is p .1, work .depths-long), filled-kept p work)
 
 same-length : tie.Need-same-length
 same-length c = search needs
@@ -60,7 +67,9 @@ same-length-3 : tie.Need-same-length-3
 same-length-3 c = search needs
 
 returns-2 : tie.Need-returns-2
-returns-2 c = tree-shown _ _ _ _ _ _ _ _ _ (passed (c .before .before .before .before .before .before .before .before .before .before .before .before .before)) (c .before .before .before .before .before .before .before .before .before .fill .ensures .work) _ _ (c .before .before .show .ensures)
+returns-2 c =
+    let filled = c .before .before .before .before .before .before .before .before .before in
+    tree-shown _ _ _ _ _ _ _ _ _ (passes (asked filled)) (filled .fill .ensures .work) _ _ (c .before .before .show .ensures)
 
 pub tree-spec : {M : Type 1} → statement M
 tree-spec =
