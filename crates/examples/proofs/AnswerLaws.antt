@@ -26,24 +26,30 @@ use Rattle.derivation.proofs.Tests.{and-parts}
 use Rattle.derivation.proofs.Totals.{total-same}
 use Rattle.derivation.proofs.Table.{at-listed}
 use Rattle.derivation.proofs.RoundsOf.{roundsOf-is}
-use Rattle.checks.specs.Memory.{workCheck}
+use Rattle.checks.specs.declared.Asked.{Asked}
+use Rattle.checks.specs.declared.Asked.the-variants.{Nothing, Start, Span}
+use Rattle.checks.specs.Line.{lineCheck}
+use Rattle.checks.specs.Question.{startCheck, spanCheck, askedCheck}
 use Rattle.checks.proofs.Laws.{start-passed}
+use Rattle.grammar.specs.declared.reading.Reading.the-variants.{Accepted}
+use Rattle.grammar.specs.Reading.{readOf}
 use Rattle.grammar.specs.Given.{sectionsGiven, grammarGiven}
+use Rattle.grammar.proofs.Accepted.{accepted}
 use Rattle.grammar.proofs.Encoded.{category-count, accepted-proper}
 use Rattle.filling.specs.Filled.{WorkFilled}
 use Rattle.chart.specs.declared.ChartAnswer.the-variants as chart-answer
 use Rattle.chart.specs.declared.EndsAnswer.the-variants as ends-answer
-use Rattle.chart.specs.Checks.{checksOf, endsQuestion}
+use Rattle.chart.specs.Checks.{checksOf}
 use Rattle.chart.specs.ChartOutcome as chart-outcome
 use Rattle.chart.specs.EndsOutcome as ends-outcome
-use Rattle.chart.proofs.CheckLaws.{Passes, sections, early-passed}
+use Rattle.chart.proofs.CheckLaws.{Passes, early-passed}
 use Rattle.marks.specs.declared.MarksAnswer.the-variants as marks-answer
 use Rattle.marks.specs.Marks.{MarksAre}
 use Rattle.marks.proofs.Unique.{length-listed, mark-computed}
 use Rattle.marks.proofs.OutcomeLaws.{marks-answered}
 use Rattle.tree.specs.declared.TreeAnswer.the-variants as tree-answer
 use Rattle.tree.specs.Bytes.{nodeBytes, bytes}
-use Rattle.tree.specs.Checks.{treeQuestion, treeFact, treeRoom}
+use Rattle.tree.specs.Checks.{treeFact, treeRoom}
 use Rattle.tree.specs.Outcome as tree-outcome
 use Rattle.forest.specs.declared.ForestAnswer.the-variants as forest-answer
 use Rattle.forest.specs.Checks.{recordCount, roomCheck}
@@ -70,23 +76,23 @@ marks-are G line new row proper e room =
       ones = total-same _ _ (length line) (λ t l. sym (at t l));
     }
 
-module _ (g line : List ℕ) (ok : Passes g line (sectionsGiven g)) (facts : List Graded) (filled : workTest g line facts ≡ true) where
+module _ (g line : List ℕ) (read : readOf g ≡ Accepted (sectionsGiven g)) (is-line : lineCheck (sectionsGiven g .classes) line ≡ check.Passed) (facts : List Graded) (filled : workTest g line facts ≡ true) where
   abbrev G : Grammar
   G = grammarGiven g
 
   proper : Proper G
-  proper = accepted-proper g (sectionsGiven g) (ok .read)
+  proper = accepted-proper g (sectionsGiven g) read
 
   categories : length (G .categories) ≡ sectionsGiven g .categories
-  categories = category-count g (sectionsGiven g) (sections g line (sectionsGiven g) ok)
+  categories = category-count g (sectionsGiven g) (accepted g (sectionsGiven g) read .0)
 
   module _ (words depths : List ℕ) (lent : Lent g line words depths) where
-    memory-passes : workCheck (sectionsGiven g .categories) (length line) (length words) (length depths) ≡ check.Passed
-    memory-passes = rw (← categories, le-ltb _ _ (lent .words-enough), le-ltb _ _ (lent .depths-enough))
+    -- the first checks pass where the question's own does
+    first : (asked : Asked) → askedCheck (sectionsGiven g .categories) (length line) asked ≡ check.Passed → Passes g line asked (length words) (length depths) (sectionsGiven g)
+    first asked q = record { read = read; rest = rw (is-line, q, ← categories, le-ltb _ _ (lent .words-enough), le-ltb _ _ (lent .depths-enough)) }
 
-    -- the early checks pass where the question's own does
-    passed : (question fact room : Check) → question ≡ check.Passed → early (checksOf g line words depths question fact room) ≡ check.Passed
-    passed question fact room q = early-passed g line (sectionsGiven g) ok words depths question fact room q memory-passes
+    passed : (asked : Asked) (fact room : Check) → askedCheck (sectionsGiven g .categories) (length line) asked ≡ check.Passed → early (checksOf g line asked words depths fact room) ≡ check.Passed
+    passed asked fact room q = early-passed words depths fact room (first asked q)
 
     work : WorkFilled G line words depths (wordsAfter g line (holding facts) words) (depthsAfter g line (holding facts) depths)
     work = work-filled g line proper facts filled words depths lent
@@ -97,7 +103,7 @@ module _ (g line : List ℕ) (ok : Passes g line (sectionsGiven g)) (facts : Lis
     chart-answer.Filled (roundsOf G line) (factCount G line),
     sym (told-is told _ t),
     chart-outcome.filled {rounds = roundsOf G line} {facts = factCount G line}
-        (rw (passed words depths lent check.Passed check.Passed check.Passed refl))
+        (rw (passed words depths lent Nothing check.Passed check.Passed refl))
         refl
         (roundsOf-is G line proper)
         refl
@@ -108,14 +114,14 @@ module _ (g line : List ℕ) (ok : Passes g line (sectionsGiven g)) (facts : Lis
   unfolding answerTest
   ends-holds A i told t =
       let row = wordAt facts (length line + 1) (A * (length line + 1) + i) in
-      let p = and-parts (passes (endsQuestion g line A i)) (sameTold told (answered (row ∷ countBelow 64 row ∷ trailingZeros 64 row ∷ []))) t in
-      let question = passes-is (endsQuestion g line A i) (p .0) in
+      let p = and-parts (passes (startCheck (sectionsGiven g .categories) (length line) A i)) (sameTold told (answered (row ∷ countBelow 64 row ∷ trailingZeros 64 row ∷ []))) t in
+      let question = passes-is (startCheck (sectionsGiven g .categories) (length line) A i) (p .0) in
       let inside = start-passed (sectionsGiven g .categories) (length line) A i question in
       λ words depths lent. (
         ends-answer.Row row (countBelow 64 row) (trailingZeros 64 row),
         sym (told-is told _ (p .1)),
         ends-outcome.found {row = row} {count = countBelow 64 row} {smallest = trailingZeros 64 row}
-            (rw (passed words depths lent (endsQuestion g line A i) check.Passed check.Passed question))
+            (rw (passed words depths lent (Start A i) check.Passed check.Passed question))
             refl
             (word-shows g line proper facts filled A i (rw categories (inside .0)) (inside .1))
             refl
@@ -133,23 +139,23 @@ module _ (g line : List ℕ) (ok : Passes g line (sectionsGiven g)) (facts : Lis
       λ words depths row lent room. (
         marks-answer.Marked secret,
         sym (told-is told _ (p .1)),
-        marks-answered g line words depths row (sectionsGiven g) ok (memory-passes words depths lent) secret _ _ (written new row) (omega arith) (work words depths lent)
+        marks-answered g line words depths row (sectionsGiven g) (first words depths lent Nothing refl) secret _ _ (written new row) (omega arith) (work words depths lent)
             (marks-are G line new row proper is (omega arith)),
       )
 
-  tree-holds : (A i j : ℕ) (nodes : List Node) (told : Told) → treeQuestion g line A i j ≡ check.Passed → (c : Check) → treeFact G line A i j ≡ c → treeTest g line A i j nodes told c ≡ true →
+  tree-holds : (A i j : ℕ) (nodes : List Node) (told : Told) → spanCheck (sectionsGiven g .categories) (length line) A i j ≡ check.Passed → (c : Check) → treeFact G line A i j ≡ c → treeTest g line A i j nodes told c ≡ true →
       OutcomeIs g line (tree A i j nodes) told (holding facts)
   unfolding treeTest bytes
   tree-holds A i j nodes told question check.Passed fact t =
       let p = and-parts (sameBy nodeBytes nodes (shown G line A i j)) (sameTold told (answered (length nodes ∷ []))) t in
       let is = same-by nodeBytes node-one nodes (shown G line A i j) (p .0) in
       λ words depths row lent room.
-      let first = passed words depths lent (treeQuestion g line A i j) (treeFact G line A i j) (treeRoom G line A i j row) question in
+      let early = passed words depths lent (Span A i j) (treeFact G line A i j) (treeRoom G line A i j row) question in
       let fits : length (bytes (shown G line A i j)) ≤ length row = rw is at room in (
         tree-answer.Nodes (length nodes),
         sym (told-is told _ (p .1)),
         tree-outcome.shows {count = length nodes}
-            (rw (first, fact, le-ltb (length row) (length (bytes (shown G line A i j))) fits))
+            (rw (early, fact, le-ltb (length row) (length (bytes (shown G line A i j))) fits))
             refl
             (ap length is)
             (work words depths lent)
@@ -161,7 +167,7 @@ module _ (g line : List ℕ) (ok : Passes g line (sectionsGiven g)) (facts : Lis
       λ words depths row lent room. (
         tree-answer.Refused refusal,
         sym (told-is told _ (p .1)),
-        tree-outcome.noTree {refusal = refusal} (passed words depths lent (treeQuestion g line A i j) (treeFact G line A i j) (treeRoom G line A i j row) question) (rw fact) refl refl (work words depths lent) (rw none),
+        tree-outcome.noTree {refusal = refusal} (passed words depths lent (Span A i j) (treeFact G line A i j) (treeRoom G line A i j row) question) (rw fact) refl refl (work words depths lent) (rw none),
       )
 
   forest-holds : (branches : List derivation.Branch) (told : Told) → answerTest g line facts (forest branches) told ≡ true → OutcomeIs g line (forest branches) told (holding facts)
@@ -170,12 +176,12 @@ module _ (g line : List ℕ) (ok : Passes g line (sectionsGiven g)) (facts : Lis
       let p = and-parts (sameBy derivation.numbers branches (records.forest G line)) (sameTold told (answered (length branches ∷ []))) t in
       let is = same-by derivation.numbers branch-one branches (records.forest G line) (p .0) in
       λ words depths rows lent room.
-      let first = passed words depths lent check.Passed check.Passed (roomCheck G line (length rows)) refl in
+      let early = passed words depths lent Nothing check.Passed (roomCheck G line (length rows)) refl in
       let fits : recordCount G line ≤ length rows = rw is at room in (
         forest-answer.Records (length branches),
         sym (told-is told _ (p .1)),
         forest-outcome.answered
-            (rw (first, le-ltb (length rows) (recordCount G line) fits))
+            (rw (early, le-ltb (length rows) (recordCount G line) fits))
             (ap (λ (l : List derivation.Branch). forest-answer.Records (length l)) is)
             (ap (λ (l : List derivation.Branch). answered (length l ∷ [])) is)
             (work words depths lent)
@@ -188,6 +194,6 @@ module _ (g line : List ℕ) (ok : Passes g line (sectionsGiven g)) (facts : Lis
   answer-holds (ends A i) told t = ends-holds A i told t
   answer-holds (marks new) told t = marks-holds new told t
   answer-holds (tree A i j nodes) told t =
-      let p = and-parts (passes (treeQuestion g line A i j)) (treeTest g line A i j nodes told (treeFact G line A i j)) t in
-      tree-holds A i j nodes told (passes-is (treeQuestion g line A i j) (p .0)) (treeFact G line A i j) refl (p .1)
+      let p = and-parts (passes (spanCheck (sectionsGiven g .categories) (length line) A i j)) (treeTest g line A i j nodes told (treeFact G line A i j)) t in
+      tree-holds A i j nodes told (passes-is (spanCheck (sectionsGiven g .categories) (length line) A i j) (p .0)) (treeFact G line A i j) refl (p .1)
   answer-holds (forest branches) told t = forest-holds branches told t

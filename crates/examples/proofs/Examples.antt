@@ -59,7 +59,7 @@ test-holds e t = go (readOf (e .grammar)) refl t
         let g = e .grammar in
         let p = and-parts (passes (lineCheck (sectionsGiven g .classes) (e .line))) (workTest g (e .line) facts && answerTest g (e .line) facts (e .question) (e .told)) ok in
         let q = and-parts (workTest g (e .line) facts) (answerTest g (e .line) facts (e .question) (e .told)) (p .1) in
-        answer-holds g (e .line) (record { read = rw read; line-check = passes-is _ (p .0) }) facts (q .0) (e .question) (e .told) (q .1)
+        answer-holds g (e .line) (rw read) (passes-is _ (p .0)) facts (q .0) (e .question) (e .told) (q .1)
 
     go : (r : Reading) → readOf (e .grammar) ≡ r → readTest (e .grammar) (e .line) (e .question) (e .told) (e .work) r ≡ true → Holds e
     go (Accepted s) read ok = accepted read (e .work) ok

@@ -23,13 +23,13 @@ use Rattle.derivation.specs.Marks as of-line
 use Rattle.derivation.specs.Shown.{shown}
 use Rattle.derivation.specs.Forest as records
 use Rattle.checks.specs.Line.{lineCheck}
+use Rattle.checks.specs.Question.{startCheck, spanCheck}
 use Rattle.grammar.specs.declared.reading.Reading.{Reading}
 use Rattle.grammar.specs.declared.reading.Reading.the-variants.{Accepted, Refused}
 use Rattle.grammar.specs.Reading.{readOf}
 use Rattle.grammar.specs.Given.{sectionsGiven, grammarGiven}
 use Rattle.tree.specs.Bytes.{nodeBytes}
-use Rattle.chart.specs.Checks.{endsQuestion}
-use Rattle.tree.specs.Checks.{treeQuestion, treeFact}
+use Rattle.tree.specs.Checks.{treeFact}
 use Rattle.examples.specs.Entry.{Graded, Question, chart, ends, marks, tree, forest, Work, asBefore, holding, Entry}
 use Rattle.examples.specs.Memory.{wordAt, depthAt}
 
@@ -103,9 +103,9 @@ module _ (g line : List ℕ) where
   answerTest facts chart told = sameTold told (answered (roundsOf G line ∷ factCount G line ∷ []))
   answerTest facts (ends A i) told =
       let row = wordAt facts width (A * width + i) in
-      passes (endsQuestion g line A i) && sameTold told (answered (row ∷ countBelow 64 row ∷ trailingZeros 64 row ∷ []))
+      passes (startCheck (sectionsGiven g .categories) (length line) A i) && sameTold told (answered (row ∷ countBelow 64 row ∷ trailingZeros 64 row ∷ []))
   answerTest facts (marks new) told = same new (of-line.marks G line) && sameTold told (answered (total (λ t. getD new t 0) (length line) ∷ []))
-  answerTest facts (tree A i j nodes) told = passes (treeQuestion g line A i j) && treeTest A i j nodes told (treeFact G line A i j)
+  answerTest facts (tree A i j nodes) told = passes (spanCheck (sectionsGiven g .categories) (length line) A i j) && treeTest A i j nodes told (treeFact G line A i j)
   answerTest facts (forest branches) told = sameBy numbers branches (records.forest G line) && sameTold told (answered (length branches ∷ []))
 
   -- an accepted grammar: the line passes, the work memory is filled, and the question is answered

@@ -15,12 +15,13 @@ use Rattle.derivation.specs.RoundsOf.{roundsOf}
 use Rattle.derivation.specs.FactCount.{factCount}
 use Rattle.derivation.specs.Marks as computed
 use Rattle.derivation.specs.Shown.{shown}
+use Rattle.checks.specs.declared.Asked.the-variants.{Nothing}
 use Rattle.checks.proofs.Laws.{both-passed, no-fault, not-both, reported-passed}
 use Rattle.grammar.specs.declared.reading.Sections.{Sections}
 use Rattle.grammar.specs.Given.{grammarGiven}
 use Rattle.grammar.proofs.Encoded.{sections-proper, category-count}
 use Rattle.filling.specs.Filled.{WorkFilled}
-use Rattle.chart.proofs.CheckLaws.{sections, line-is, grammar-is, early-passed}
+use Rattle.chart.proofs.CheckLaws.{Passes, sections, line-is, grammar-is, early-passed}
 use Rattle.chart.specs.declared.ChartAnswer.{ChartAnswer}
 use Rattle.chart.specs.declared.ChartAnswer.the-variants as chart
 use Rattle.chart.specs.ChartOutcome.{ChartOutcome}
@@ -34,23 +35,22 @@ use Rattle.tree.specs.Bytes.{bytes}
 use Rattle.tree.specs.Checks.{treeFact, treeChecks}
 use Rattle.tree.specs.Outcome as tree-outcome
 use Rattle.tree.proofs.ByteLaws.{bytes-four}
-use Rattle.report.proofs.CheckLaws.{Ready}
 
 -- of a job whose checks pass
-module _ (g line : List ℕ) (s : Sections) (ready : Ready g line s) where
+module _ {g line : List ℕ} {s : Sections} (passes : Passes g line Nothing 512 16384 s) where
   pub ready-proper : Proper (grammarGiven g)
-  ready-proper = rw (grammar-is g line s (ready .passes)) (sections-proper g s (sections g line s (ready .passes)))
+  ready-proper = rw (grammar-is passes) (sections-proper g s (sections passes))
 
   pub ready-categories : length (grammarGiven g .categories) ≡ s .categories
-  ready-categories = rw (grammar-is g line s (ready .passes)) (category-count g s (sections g line s (ready .passes)))
+  ready-categories = rw (grammar-is passes) (category-count g s (sections passes))
 
   pub ready-short : length line ≤ 63
-  ready-short = line-is g line s (ready .passes) .short
+  ready-short = line-is passes .short
 
   -- rounds and facts are those computed, and the work memory is filled
   pub chart-ready : {words depths words′ depths′ : List ℕ} {answer : ChartAnswer} → length words ≡ 512 → length depths ≡ 16384 → ChartOutcome g line words depths answer words′ depths′ →
       (answer ≡ chart.Filled (roundsOf (grammarGiven g) line) (factCount (grammarGiven g) line)) × WorkFilled (grammarGiven g) line words depths words′ depths′
-  chart-ready {words} {depths} w d outcome = rw (grammar-is g line s (ready .passes)) (chart-answered g line words depths s (ready .passes) (rw (w, d) (ready .work)) outcome)
+  chart-ready {words} {depths} w d outcome = rw (grammar-is passes) (chart-answered g line words depths s (rw (w, d) passes) outcome)
 
   -- the marks are those computed, and no more than 1 each
   pub marks-answered : {words depths marks words′ depths′ marks′ : List ℕ} {answer : MarksAnswer} → length words ≡ 512 → length depths ≡ 16384 → length marks ≡ 63 →
@@ -62,7 +62,7 @@ module _ (g line : List ℕ) (s : Sections) (ready : Ready g line s) where
       room = omega (arith, ready-short, m)
 
       passed : (early (marksChecks g line words depths marks) ≡ check.Passed) × (late (marksChecks g line words depths marks) ≡ check.Passed)
-      passed = (early-passed g line s (ready .passes) words depths check.Passed check.Passed (marksRoom line marks) refl (rw (w, d) (ready .work)), rw (le-ltb (length marks) (length line) room))
+      passed = (early-passed {asked = Nothing} words depths {s = s} check.Passed (marksRoom line marks) (rw (w, d) passes), rw (le-ltb (length marks) (length line) room))
 
       go : {words′ depths′ marks′ : List ℕ} {answer : MarksAnswer} → MarksOutcome g line words depths marks answer words′ depths′ marks′ →
           (take (length line) marks′ ≡ computed.marks (grammarGiven g) line) × (length marks′ ≡ 63) × ((t : ℕ) → t < length line → getD marks′ t 0 ≤ 1)

@@ -1,22 +1,21 @@
 // What the program prints of a job, piece by piece.
 ghost use Prim.Native.Nat.{_≤_};
 ghost use lib.ListN.{length};
-ghost use mathlib.Core.Path.{_≡_};
 ghost use mathlib.Core.List.{_∷_, []};
-ghost use Rattle.grammar.specs.declared.reading.Reading.the-variants.{Accepted};
-ghost use Rattle.report.specs.Checked.{checkedJob};
+ghost use Rattle.report.specs.Checked.{JobPasses};
 ghost use Rattle.report.specs.Printed.{refusedLine};
 ghost use Rattle.report.specs.Pieces.{questionsOf, answerPieces, chartPieces, pieces, Yielded};
 
 pub mod job; // job.rt: reads a job's three sections
 mod sections; // sections.rt: writes the chart's lines, the marks, a question
 
+use chart::work::checked;
+use checks::Asked;
 use grammar::reading::Reading;
 use grammar::reading::Sections;
 use job::JobReading;
 use job::read_job;
 use refusals::Refusal;
-use sections::check_job;
 use sections::write_chart;
 use sections::write_marked;
 use sections::write_tree;
@@ -53,7 +52,7 @@ fn answer_piece(
     number: usize,
     out: &mut [u8],
 ) -> Piece
-    requires { ⌜ (checkedJob (now g) (now line) ≡ Accepted s) × (475200 ≤ length (now out)) ⌝ }
+    requires { ⌜ JobPasses (now g) (now line) s × (475200 ≤ length (now out)) ⌝ }
     ensures { λ r. ⌜ Yielded (answerPieces (now (g .entry)) (now (line .entry)) (questionsOf (now (questions .entry)))) number (now (out .entry)) (now (out .exit)) r ⌝ }
 {
     let count = questions.len() / 3;
@@ -90,7 +89,7 @@ fn job_piece(g: &[u8], line: &[u8], questions: &[u8], number: usize, out: &mut [
     requires { ⌜ 475200 ≤ length (now out) ⌝ }
     ensures { λ r. ⌜ Yielded (chartPieces (now (g .entry)) (now (line .entry)) (questionsOf (now (questions .entry)))) number (now (out .entry)) (now (out .exit)) r ⌝ }
 {
-    match check_job(g, line) {
+    match checked(g, line, Asked::Nothing, 512, 16384) {
         Reading::Refused(refusal) => refused_piece(refusal, number, out),
         Reading::Accepted(s) => answer_piece(g, s, line, questions, number, out),
     }

@@ -1,40 +1,22 @@
 // Writes the pieces of what is printed of a job that was read: the chart's lines, the marks, a question.
-ghost use mathlib.Core.Path.{_≡_};
 ghost use mathlib.Core.List.{_++_};
 ghost use Prim.Native.Nat.{_+_, _≤_};
 ghost use lib.ListN.{length};
-ghost use Rattle.grammar.specs.declared.reading.Reading.the-variants.{Accepted};
+ghost use Rattle.grammar.specs.declared.reading.Sections.{Sections};
 ghost use Rattle.grammar.specs.Given.{grammarGiven};
 ghost use Rattle.lines.specs.Decimal.{Written};
-ghost use Rattle.report.specs.Checked.{checkedJob, JobPasses};
+ghost use Rattle.report.specs.Checked.{JobPasses};
 ghost use Rattle.report.specs.Printed.{refusedLine, roundsLine, factLines, marksLine, treeLines};
 use chart::ChartAnswer;
-use chart::work::prepare;
-use checks::check_work;
-use grammar::reading::Reading;
 use grammar::reading::Sections;
 use lines::listing::write_facts;
 use lines::listing::write_marks;
 use lines::listing::write_nodes;
 use lines::writing::write_line;
 use lines::writing::write_rounds;
-use refusals::Check;
 use refusals::Refusal;
 use refusals::row_of;
 use tree::TreeAnswer;
-
-// Checks grammar, line and the work memory that the program lends.
-pub fn check_job(g: &[u8], line: &[u8]) -> Reading
-    ensures { λ r. ⌜ r ≡ checkedJob (now (g .entry)) (now (line .entry)) ⌝ }
-{
-    match prepare(g, line) {
-        Reading::Refused(refusal) => Reading::Refused(refusal),
-        Reading::Accepted(s) => match check_work(s.categories, line.len(), 512, 16384) {
-            Check::Refused(refusal) => Reading::Refused(refusal),
-            Check::Passed => Reading::Accepted(s),
-        },
-    }
-}
 
 // Writes a refusal's line.
 pub fn refused_line(out: &mut [u8], at: usize, refusal: Refusal) -> usize
@@ -48,7 +30,7 @@ pub fn refused_line(out: &mut [u8], at: usize, refusal: Refusal) -> usize
 
 // Writes rounds and facts, and a line for each fact.
 pub fn write_chart(g: &[u8], s: Sections, line: &[u8], out: &mut [u8]) -> usize
-    requires { ⌜ (checkedJob (now g) (now line) ≡ Accepted s) × (475200 ≤ length (now out)) ⌝ }
+    requires { ⌜ JobPasses (now g) (now line) s × (475200 ≤ length (now out)) ⌝ }
     ensures { λ r. ⌜ Written (now (out .entry)) 0 (roundsLine (grammarGiven (now (g .entry))) (now (line .entry)) ++ factLines (grammarGiven (now (g .entry))) (now (line .entry))) (now (out .exit)) r ⌝ }
 {
     let mut words = [0; 512];
@@ -65,7 +47,7 @@ pub fn write_chart(g: &[u8], s: Sections, line: &[u8], out: &mut [u8]) -> usize
 
 // Writes the line of the marks.
 pub fn write_marked(g: &[u8], line: &[u8], out: &mut [u8]) -> usize
-    requires { ⌜ JobPasses (now g) (now line) × (475200 ≤ length (now out)) ⌝ }
+    requires { ⌜ ((s : Sections) × JobPasses (now g) (now line) s) × (475200 ≤ length (now out)) ⌝ }
     ensures { λ r. ⌜ Written (now (out .entry)) 0 (marksLine (grammarGiven (now (g .entry))) (now (line .entry))) (now (out .exit)) r ⌝ }
 {
     let mut words = [0; 512];

@@ -2,12 +2,13 @@
 use borrow.Author.Needs.{needs}
 use mathlib.Core.Path.{sym, _∙_}
 use Rattle.report.specs.Pieces.{chartPieces}
-use Rattle.report.proofs.CheckLaws.{checked-refused, checked-accepted, ready-reported}
+use Rattle.chart.proofs.CheckLaws.{checked-accepted}
+use Rattle.report.proofs.CheckLaws.{job-refused, job-passed}
 use Rattle.report.proofs.job_piece.Statement.{statement}
 use Rattle.report.proofs.job_piece.Tie as tie
 
-check-job-requires : tie.Need-check-job-requires
-check-job-requires c κs = search needs
+checked-requires : tie.Need-checked-requires
+checked-requires c κs = search needs
 
 enum-known-refusal : tie.Need-enum-known-refusal
 enum-known-refusal c = search needs
@@ -19,7 +20,7 @@ enum-known-s : tie.Need-enum-known-s
 enum-known-s c = search needs
 
 answer-piece-requires : tie.Need-answer-piece-requires
-answer-piece-requires c κs = (sym (c .before .before .before .before .check-job .ensures) ∙ c .before .before .s .given .1, c .before .before .before .before .before .before .before .before .before .pre)
+answer-piece-requires c κs = (sym (c .before .before .before .before .checked .ensures) ∙ c .before .before .s .given .1, c .before .before .before .before .before .before .before .before .before .pre)
 
 same-length : tie.Need-same-length
 same-length c = search needs
@@ -27,7 +28,7 @@ same-length c = search needs
 returns : tie.Need-returns
 unfolding chartPieces
 returns c =
-    let refused = checked-refused _ _ _ (sym (c .before .before .before .before .before .before .before .check-job .ensures) ∙ c .before .before .before .before .before .refusal .given .1) in
+    let refused = job-refused _ _ _ (sym (c .before .before .before .before .before .before .before .checked .ensures) ∙ c .before .before .before .before .before .refusal .given .1) in
     rw refused (c .before .before .refused-piece .ensures)
 
 same-length-2 : tie.Need-same-length-2
@@ -36,14 +37,14 @@ same-length-2 c = search needs
 returns-2 : tie.Need-returns-2
 unfolding chartPieces
 returns-2 c =
-    let ready = checked-accepted _ _ _ (sym (c .before .before .before .before .before .before .before .check-job .ensures) ∙ c .before .before .before .before .before .s .given .1) in
-    rw (ready-reported _ _ _ ready) (c .before .before .answer-piece .ensures)
+    let passes = checked-accepted _ _ _ _ _ _ (sym (c .before .before .before .before .before .before .before .checked .ensures) ∙ c .before .before .before .before .before .s .given .1) in
+    rw (job-passed passes) (c .before .before .answer-piece .ensures)
 
 pub job-piece-spec : {M : Type 1} → statement M
 job-piece-spec =
     tie.close
     (tie.spec
-    check-job-requires
+    checked-requires
     enum-known-refusal
     refused-piece-requires
     enum-known-s

@@ -12,7 +12,7 @@ use Rattle.chart.specs.declared.ChartAnswer.the-variants as chart
 use Rattle.lines.proofs.WriteLaws.{written-long, written-then}
 use Rattle.lines.proofs.LineLaws.{rounds-few}
 use Rattle.report.specs.Printed.{roundsLine}
-use Rattle.report.proofs.CheckLaws.{checked-accepted, ready-sizes}
+use Rattle.chart.proofs.CheckLaws.{checked-accepted, memory-is}
 use Rattle.report.proofs.AnswerLaws.{ready-proper, ready-categories, chart-ready}
 use Rattle.report.proofs.FactLaws.{facts-listed}
 use Rattle.report.proofs.sections.write_chart.Statement.{statement}
@@ -45,23 +45,23 @@ slice-aggregate-write-facts c = search needs
 mul-write-facts : tie.Need-mul-write-facts
 mul-write-facts c =
     let start = c .before .before .before .before .before .before .before .before .before .before .before .before .before .before .before .before .before .before in
-    let ready = checked-accepted _ _ (start .args .s) (start .pre .0) in
-    let sizes = ready-sizes _ _ (start .args .s) ready in
+    let passes = checked-accepted _ _ _ _ _ (start .args .s) (start .pre .0) in
+    let sizes = memory-is passes in
     omega (arith, sizes .0)
 
 mul-write-facts-2 : tie.Need-mul-write-facts-2
 mul-write-facts-2 c =
     let start = c .before .before .before .before .before .before .before .before .before .before .before .before .before .before .before .before .before .before in
-    let ready = checked-accepted _ _ (start .args .s) (start .pre .0) in
-    let sizes = ready-sizes _ _ (start .args .s) ready in
+    let passes = checked-accepted _ _ _ _ _ (start .args .s) (start .pre .0) in
+    let sizes = memory-is passes in
     omega (arith, sizes .1)
 
 write-facts-requires : tie.Need-write-facts-requires
 write-facts-requires c κs =
     let start = c .before .before .before .before .before .before .before .before .before .before .before .before .before .before .before .before .before .before in
-    let ready = checked-accepted _ _ (start .args .s) (start .pre .0) in
-    let filled = chart-ready _ _ (start .args .s) ready (length-replicate {A = ℕ} 512 0) (length-replicate {A = ℕ} 16384 0) (c .before .before .before .before .before .before .before .before .before .before .before .before .chart .ensures) in
-    let sizes = ready-sizes _ _ (start .args .s) ready in
+    let passes = checked-accepted _ _ _ _ _ (start .args .s) (start .pre .0) in
+    let filled = chart-ready passes (length-replicate {A = ℕ} 512 0) (length-replicate {A = ℕ} 16384 0) (c .before .before .before .before .before .before .before .before .before .before .before .before .chart .ensures) in
+    let sizes = memory-is passes in
     let rounds = c .before .before .before .before .before .write-rounds .ensures in
     let fits = c .before .before .before .before .before .before .before .known-told .given in
     let few = rounds-few (c .before .before .before .before .before .before .before .before .rounds .given .0 .0) (c .before .before .before .before .before .before .before .before .rounds .given .0 .1 .0) (omega (arith, fits)) (omega (arith, fits)) in
@@ -74,8 +74,8 @@ never e = let z : _≡_ {A = ℕ} 0 1 = cc in omega arith
 returns : tie.Need-returns
 returns c =
     let start = c .before .before .before .before .before .before .before .before .before .before in
-    let ready = checked-accepted _ _ (start .args .s) (start .pre .0) in
-    let filled = chart-ready _ _ (start .args .s) ready (length-replicate {A = ℕ} 512 0) (length-replicate {A = ℕ} 16384 0) (c .before .before .before .before .chart .ensures) in
+    let passes = checked-accepted _ _ _ _ _ (start .args .s) (start .pre .0) in
+    let filled = chart-ready passes (length-replicate {A = ℕ} 512 0) (length-replicate {A = ℕ} 16384 0) (c .before .before .before .before .chart .ensures) in
     absurd (never (sym (filled .0) ∙ c .enum-told .given .1))
 
 same-length : tie.Need-same-length
@@ -85,9 +85,9 @@ returns-2 : tie.Need-returns-2
 unfolding roundsLine
 returns-2 c =
     let start = c .before .before .before .before .before .before .before .before .before .before .before .before .before .before .before .before .before .before .before .before .before in
-    let ready = checked-accepted _ _ (start .args .s) (start .pre .0) in
-    let filled = chart-ready _ _ (start .args .s) ready (length-replicate {A = ℕ} 512 0) (length-replicate {A = ℕ} 16384 0) (c .before .before .before .before .before .before .before .before .before .before .before .before .before .before .before .chart .ensures) in
-    let sizes = ready-sizes _ _ (start .args .s) ready in
+    let passes = checked-accepted _ _ _ _ _ (start .args .s) (start .pre .0) in
+    let filled = chart-ready passes (length-replicate {A = ℕ} 512 0) (length-replicate {A = ℕ} 16384 0) (c .before .before .before .before .before .before .before .before .before .before .before .before .before .before .before .chart .ensures) in
+    let sizes = memory-is passes in
     let answer = sym (filled .0) ∙ c .before .before .before .before .before .before .before .before .before .before .before .rounds .given .1 in
     let e₁ : roundsOf (grammarGiven (start .args .g .now)) (start .args .line .now) ≡ c .before .before .before .before .before .before .before .before .before .before .before .rounds .given .0 .0 = cc in
     let e₂ : factCount (grammarGiven (start .args .g .now)) (start .args .line .now) ≡ c .before .before .before .before .before .before .before .before .before .before .before .rounds .given .0 .1 .0 = cc in
@@ -95,7 +95,7 @@ returns-2 c =
     let fits = c .before .before .before .before .before .before .before .before .before .before .known-told .given in
     let few = rounds-few (c .before .before .before .before .before .before .before .before .before .before .before .rounds .given .0 .0) (c .before .before .before .before .before .before .before .before .before .before .before .rounds .given .0 .1 .0) (omega (arith, fits)) (omega (arith, fits)) in
     let facts = c .before .before .write-facts .ensures in
-    let lines = rw (ready-categories _ _ (start .args .s) ready) at (facts-listed _ _ (ready-proper _ _ (start .args .s) ready) (filled .1)) in
+    let lines = rw (ready-categories passes) at (facts-listed _ _ (ready-proper passes) (filled .1)) in
     rw (e₁, e₂, sym lines) (written-then (omega (arith, few, rounds .after, facts .0 .after, facts .1, sizes .1, start .pre .1)) rounds (facts .0))
 
 pub write-chart-spec : {M : Type 1} → statement M

@@ -5,7 +5,7 @@ use Prim.Native.Nat.{ℕ}
 use mathlib.Core.Path.{sym}
 use lib.ListN.{length-replicate}
 use Rattle.report.specs.Printed.{marksLine}
-use Rattle.report.proofs.CheckLaws.{checked-accepted}
+use Rattle.chart.proofs.CheckLaws.{checked-accepted}
 use Rattle.report.proofs.AnswerLaws.{ready-short, marks-answered}
 use Rattle.report.proofs.sections.write_marked.Statement.{statement}
 use Rattle.report.proofs.sections.write_marked.Tie as tie
@@ -28,9 +28,9 @@ slice-aggregate-write-marks c = search needs
 write-marks-requires : tie.Need-write-marks-requires
 write-marks-requires c κs =
     let start = c .before .before .before .before .before .before .before .before .before .before .before .before in
-    let ready = checked-accepted _ _ (start .pre .0 .0) (start .pre .0 .1) in
-    let marked = marks-answered _ _ (start .pre .0 .0) ready (length-replicate {A = ℕ} 512 0) (length-replicate {A = ℕ} 16384 0) (length-replicate {A = ℕ} 63 0) (c .before .before .before .before .before .marks .ensures) in
-    let short = ready-short _ _ (start .pre .0 .0) ready in
+    let passes = checked-accepted _ _ _ _ _ (start .pre .0 .0) (start .pre .0 .1) in
+    let marked = marks-answered passes (length-replicate {A = ℕ} 512 0) (length-replicate {A = ℕ} 16384 0) (length-replicate {A = ℕ} 63 0) (c .before .before .before .before .before .marks .ensures) in
+    let short = ready-short passes in
     (omega (arith, short, marked .1), omega (arith, short, start .pre .1), marked .2)
 
 same-length : tie.Need-same-length
@@ -40,8 +40,8 @@ returns : tie.Need-returns
 unfolding marksLine
 returns c =
     let start = c .before .before .before .before .before .before .before .before .before .before .before .before .before .before .before in
-    let ready = checked-accepted _ _ (start .pre .0 .0) (start .pre .0 .1) in
-    let marked = marks-answered _ _ (start .pre .0 .0) ready (length-replicate {A = ℕ} 512 0) (length-replicate {A = ℕ} 16384 0) (length-replicate {A = ℕ} 63 0) (c .before .before .before .before .before .before .before .before .marks .ensures) in
+    let passes = checked-accepted _ _ _ _ _ (start .pre .0 .0) (start .pre .0 .1) in
+    let marked = marks-answered passes (length-replicate {A = ℕ} 512 0) (length-replicate {A = ℕ} 16384 0) (length-replicate {A = ℕ} 63 0) (c .before .before .before .before .before .before .before .before .marks .ensures) in
     rw (sym (marked .0)) (c .before .before .write-marks .ensures)
 
 pub write-marked-spec : {M : Type 1} → statement M
