@@ -1,8 +1,8 @@
--- The pieces put together are what is printed; which piece stands where; the questions that bytes hold.
+-- How many pieces there are, and which stands where; the questions that bytes hold; a piece that is yielded.
 use Prim.Native.Nat.{ℕ, zero, suc, _+_, _-_, _*_, _/_, _≤_, _<_}
 use mathlib.Core.Path.{_≡_, refl, sym, _∙_, ap}
 use mathlib.Core.Bool.{Bool}
-use mathlib.Core.List.{List, [], _∷_, _++_, append-assoc, append-nil, map, flatten}
+use mathlib.Core.List.{List, [], _∷_, _++_, map}
 use native.Mathlib.Numerals.{add-one}
 use native.Mathlib.Nat.{zero-add, add-zero, add-assoc}
 use native.Mathlib.Decide.{decLt}
@@ -25,34 +25,17 @@ use Rattle.report.specs.declared.Piece.{Piece}
 use Rattle.report.specs.declared.job.Job.{Job}
 use Rattle.report.specs.declared.job.JobReading.{JobReading}
 use Rattle.report.specs.declared.job.JobReading.the-variants.{Read, Refused}
-use Rattle.report.specs.Job.{jobOf, questionsAt, grammarPart, linePart, questionsFrom, questionsPart}
-use Rattle.report.specs.Printed.{lentWords, lentDepths, refusedLine, roundsLine, factLines, marksLine, treeLines, unlessRefused, answerLines, chartPrinted, jobPrinted, printed}
-use Rattle.report.specs.Pieces.{unlessAlone, answerPieces, chartPieces, jobPieces, pieces, questionsOf, Yielded}
+use Rattle.report.specs.Job.{jobOf, questionsAt, grammarPart, linePart, questionsFrom, questionsPart, questionsOf}
+use Rattle.report.specs.Printed.{lentWords, lentDepths, roundsLine, factLines, marksLine, treeLines, unlessRefused, answerPieces, chartPieces, jobPieces, pieces}
+use Rattle.report.specs.Yielded.{Yielded}
 use Rattle.report.proofs.JobLaws.{JobRead, job-read}
-
-chart-pieces : (g line : List ℕ) (questions : List Span) → flatten (chartPieces g line questions) ≡ chartPrinted g line questions
-unfolding chartPieces chartPrinted answerPieces answerLines flatten
-chart-pieces g line questions = go (reported (chartChecks g line lentWords lentDepths))
-  where
-    go : (c : Check) → flatten (unlessAlone c (answerPieces g line questions)) ≡ unlessRefused c (answerLines g line questions)
-    go (check.Refused refusal) = append-nil (refusedLine refusal)
-    go check.Passed = append-assoc (roundsLine (grammarGiven g) line) (factLines (grammarGiven g) line) (marksLine (grammarGiven g) line ++ flatten (map (treeLines g line) questions))
-
--- the pieces put together are what is printed
-pub pieces-printed : (input : List ℕ) → flatten (pieces input) ≡ printed input
-unfolding pieces printed flatten
-pieces-printed input = go (jobOf input)
-  where
-    go : (r : JobReading) → flatten (jobPieces input r) ≡ jobPrinted input r
-    go (Refused refusal) = append-nil (refusedLine refusal)
-    go (Read job) = chart-pieces (grammarPart input job) (linePart input job) (questionsPart input job)
 
 -- there is a first piece
 chart-some : (g line : List ℕ) (questions : List Span) → 0 < length (chartPieces g line questions)
 unfolding chartPieces answerPieces
 chart-some g line questions = go (reported (chartChecks g line lentWords lentDepths))
   where
-    go : (c : Check) → 0 < length (unlessAlone c (answerPieces g line questions))
+    go : (c : Check) → 0 < length (unlessRefused c (answerPieces g line questions))
     go (check.Refused refusal) = omega arith
     go check.Passed = omega arith
 
@@ -161,7 +144,7 @@ chart-few : (g line : List ℕ) (questions : List Span) → length questions ≤
 unfolding chartPieces answerPieces
 chart-few g line questions h = go (reported (chartChecks g line lentWords lentDepths))
   where
-    go : (c : Check) → length (unlessAlone c (answerPieces g line questions)) ≤ 4098
+    go : (c : Check) → length (unlessRefused c (answerPieces g line questions)) ≤ 4098
     go (check.Refused refusal) = omega arith
     go check.Passed = omega (arith, length-map questions (treeLines g line))
 

@@ -1,5 +1,5 @@
 -- How a job's bytes are read: three sections, each after its count, and nothing after them.
-use Prim.Native.Nat.{ℕ, zero, suc, _+_, _*_}
+use Prim.Native.Nat.{ℕ, zero, suc, _+_, _*_, _/_}
 use mathlib.Core.Bool.{cond}
 use mathlib.Core.List.{List, [], _∷_}
 use lib.ListN.{length, take, drop}
@@ -76,3 +76,7 @@ questionsFrom input (suc count) at =
 
 abbrev pub questionsPart : List ℕ → Job → List Span
 questionsPart input job = questionsFrom input (job .questions) (questionsAt (job .grammar) (job .line))
+
+-- the questions that bytes hold, three each
+abbrev pub questionsOf : List ℕ → List Span
+questionsOf bytes = questionsFrom bytes (length bytes / 3) 0

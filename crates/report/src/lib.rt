@@ -5,8 +5,9 @@ ghost use mathlib.Core.Path.{_≡_};
 ghost use mathlib.Core.List.{_∷_, []};
 ghost use Rattle.grammar.specs.declared.reading.Reading.the-variants.{Accepted};
 ghost use Rattle.report.specs.Checked.{checkedJob};
-ghost use Rattle.report.specs.Printed.{refusedLine};
-ghost use Rattle.report.specs.Pieces.{questionsOf, answerPieces, chartPieces, pieces, Yielded};
+ghost use Rattle.report.specs.Job.{questionsOf};
+ghost use Rattle.report.specs.Printed.{refusedLine, answerPieces, chartPieces, pieces};
+ghost use Rattle.report.specs.Yielded.{Yielded};
 
 pub mod job; // job.rt: reads a job's three sections
 mod sections; // sections.rt: writes the chart's lines, the marks, a question

@@ -2,7 +2,8 @@
 use borrow.Author.Needs.{needs}
 use native.Mathlib.Omega.{arith}
 use mathlib.Core.Path.{_≡_}
-use Rattle.report.specs.Pieces.{questionsOf, answerPieces}
+use Rattle.report.specs.Job.{questionsOf}
+use Rattle.report.specs.Printed.{answerPieces}
 use Rattle.report.proofs.PieceLaws.{piece-written, piece-none, answers-more, first-answer, second-answer, later-answer, no-answer}
 use Rattle.report.proofs.answer_piece.Statement.{statement}
 use Rattle.report.proofs.answer_piece.Tie as tie

@@ -1,7 +1,7 @@
 -- `report::job_piece` meets its contract.
 use borrow.Author.Needs.{needs}
 use mathlib.Core.Path.{sym, _∙_}
-use Rattle.report.specs.Pieces.{chartPieces}
+use Rattle.report.specs.Printed.{chartPieces}
 use Rattle.report.proofs.CheckLaws.{checked-refused, checked-accepted, ready-reported}
 use Rattle.report.proofs.job_piece.Statement.{statement}
 use Rattle.report.proofs.job_piece.Tie as tie

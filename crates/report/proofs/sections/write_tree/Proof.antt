@@ -3,6 +3,7 @@ use borrow.Author.Needs.{needs}
 use native.Mathlib.Omega.{arith}
 use Prim.Native.Nat.{ℕ}
 use mathlib.Core.Path.{sym}
+use mathlib.Core.List.{append-nil, flatten}
 use lib.ListN.{length-replicate}
 use Rattle.lines.specs.Lines.{text, lineOf, numbered}
 use Rattle.lines.proofs.WriteLaws.{written-long, written-then}
@@ -68,20 +69,20 @@ same-length : tie.Need-same-length
 same-length c = search needs
 
 returns : tie.Need-returns
-unfolding treeLines lentWords lentDepths lentTree numbered lineOf text
+unfolding treeLines flatten lentWords lentDepths lentTree numbered lineOf text
 returns c =
     let start = c .before .before .before .before .before .before .before .before .before .before .before .before .before .before .before .before .before .before .before .before .before .before .before in
     let few = three-few 2 (start .args .category) (start .args .start) (start .args .end) (omega arith) (omega arith) (omega arith) in
     let line = c .before .before .before .before .before .before .before .before .before .before .before .before .before .before .before .before .write-line .ensures in
     let refusal = c .before .before .refused-line .ensures in
     let refused = tree-refused _ _ _ _ _ _ _ _ (rw (c .before .before .before .before .before .refusal .given .1) at (c .before .before .before .before .before .before .before .before .before .before .tree .ensures)) in
-    rw refused (written-then (omega (arith, few, line .after, refusal .0 .after, refusal .1, start .pre)) line (refusal .0))
+    rw (refused, append-nil) (written-then (omega (arith, few, line .after, refusal .0 .after, refusal .1, start .pre)) line (refusal .0))
 
 same-length-2 : tie.Need-same-length-2
 same-length-2 c = search needs
 
 returns-2 : tie.Need-returns-2
-unfolding treeLines lentWords lentDepths lentTree numbered lineOf text
+unfolding treeLines flatten lentWords lentDepths lentTree numbered lineOf text
 returns-2 c =
     let start = c .before .before .before .before .before .before .before .before .before .before .before .before .before .before .before .before .before .before .before .before .before .before .before .before in
     let few = three-few 2 (start .args .category) (start .args .start) (start .args .end) (omega arith) (omega arith) (omega arith) in
