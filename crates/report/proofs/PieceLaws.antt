@@ -19,8 +19,8 @@ use Rattle.grammar.specs.Given.{grammarGiven}
 use Rattle.grammar.specs.Reading.{byte}
 use Rattle.chart.specs.Checks.{chartChecks}
 use Rattle.tree.specs.Bytes.{wrote}
-use Rattle.lines.specs.Decimal.{Written}
-use Rattle.lines.proofs.WriteLaws.{written-none}
+use Rattle.lines.specs.Stored.{Stored}
+use Rattle.lines.proofs.WriteLaws.{stored-none}
 use Rattle.report.specs.declared.Piece.{Piece}
 use Rattle.report.specs.declared.job.Job.{Job}
 use Rattle.report.specs.declared.job.JobReading.{JobReading}
@@ -81,11 +81,11 @@ questions-moved bytes part offset (suc count) at h =
 
 -- piece k is written, or there is none
 module _ (all : List (List ℕ)) (k : ℕ) {row : List ℕ} (more : Bool) (follows : more ≡ ltb (suc k) (length all)) where
-  pub piece-written : (bytes : List ℕ) {row′ : List ℕ} {n : ℕ} → getD all k [] ≡ bytes → Written row 0 bytes row′ n → Yielded all k row row′ (record { length = n; more = more })
-  piece-written bytes e w = record { holds = rw e (w .holds); long = rw e (w .after ∙ zero-add (length bytes)); more = follows }
+  pub piece-stored : (bytes : List ℕ) {row′ : List ℕ} {n : ℕ} → getD all k [] ≡ bytes → Stored row 0 bytes row′ n → Yielded all k row row′ (record { length = n; more = more })
+  piece-stored bytes e w = record { holds = rw e (w .holds); long = rw e (w .after ∙ zero-add (length bytes)); more = follows }
 
   pub piece-none : getD all k [] ≡ [] → Yielded all k row row (record { length = 0; more = more })
-  piece-none e = piece-written [] e (written-none row 0)
+  piece-none e = piece-stored [] e (stored-none row 0)
 
 -- past the only piece there is none
 pub none-after-one : (bytes : List ℕ) (k : ℕ) → 0 < k → getD (bytes ∷ []) k [] ≡ []
