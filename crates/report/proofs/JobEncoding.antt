@@ -14,7 +14,7 @@ use Rattle.grammar.proofs.Encoding.{byte-is, byte-after, bytes-are, bytes-after
 use Rattle.report.specs.declared.job.Job.{Job}
 use Rattle.report.specs.declared.job.JobReading.the-variants.{Read}
 use Rattle.report.specs.Job.{lineAt, questionsAt, endAt, grammarCount, jobOf, grammarPart, linePart, questionsFrom, questionsPart}
-use Rattle.report.specs.JobEncoding.{Bytes, encodeQuestions, encodeJob, JobWithin}
+use Rattle.report.specs.JobEncoding.{AreBytes, encodeQuestions, encodeJob, JobWithin}
 use Rattle.report.proofs.JobLaws.{jobAt, job-read, read-whole}
 
 -- the questions that stand from an offset to the end
@@ -42,7 +42,7 @@ sections-encode b grammar line questions inside low high sections =
     drop-cons b 0 0 (omega arith) ∙ rw (drop-cons b 1 0 (omega arith), low, high, sections)
 
 -- what was read is the encoding of its parts
-module _ (b : List ℕ) (bytes : Bytes b) (whole : length b ≡ endAt (jobAt b)) where
+module _ (b : List ℕ) (bytes : AreBytes b) (whole : length b ≡ endAt (jobAt b)) where
   abbrev job : Job
   job = jobAt b
 
@@ -165,7 +165,7 @@ module _ (b grammar line : List ℕ) (questions : List Span) (e : b ≡ encodeJo
 
 -- bytes are read as a job exactly when they are the encoding of some grammar bytes, a line and questions, within the limits
 pub job-iff :
-    (b : List ℕ) → Bytes b →
+    (b : List ℕ) → AreBytes b →
     ((job : Job) × (jobOf b ≡ Read job)) ↔ ((grammar : List ℕ) × (line : List ℕ) × (questions : List Span) × JobWithin grammar line questions × (b ≡ encodeJob grammar line questions))
 job-iff b bytes = (
   λ r. let read = job-read b (r .0) (r .1) in
