@@ -15,14 +15,9 @@ use Rattle.report.specs.declared.job.Job.{Job}
 use Rattle.report.specs.declared.job.JobReading.the-variants.{Read}
 use Rattle.report.specs.Job.{lineAt, questionsAt, endAt, grammarCount, jobOf, grammarPart, linePart, questionsFrom, questionsPart}
 use Rattle.report.specs.JobEncoding.{AreBytes, encodeQuestions, encodeJob, JobWithin}
-use Rattle.report.proofs.JobLaws.{jobAt, job-read, read-whole}
+use Rattle.report.proofs.JobLaws.{jobAt, job-read, read-whole, questions-count}
 
 -- the questions that stand from an offset to the end
-questions-length : (b : List ℕ) (count at : ℕ) → length (questionsFrom b count at) ≡ count
-unfolding questionsFrom
-questions-length b zero at = refl
-questions-length b (suc count) at = ap suc (questions-length b count (at + 3))
-
 questions-encoded : (b : List ℕ) (count at : ℕ) → length b ≡ at + 3 * count → drop at b ≡ encodeQuestions (questionsFrom b count at)
 unfolding questionsFrom encodeQuestions
 questions-encoded b zero at e = let z : at ≡ length b = omega arith in rw z (drop-length b)
@@ -53,7 +48,7 @@ module _ (b : List ℕ) (bytes : AreBytes b) (whole : length b ≡ endAt (jobAt 
   line-length = part-length b (job .line) (lineAt (job .grammar)) (omega arith)
 
   question-length : length (questionsPart b job) ≡ job .questions
-  question-length = questions-length b (job .questions) (questionsAt (job .grammar) (job .line))
+  question-length = questions-count b (job .questions) (questionsAt (job .grammar) (job .line))
 
   questions-section : drop (3 + job .grammar + job .line) b ≡ length (questionsPart b job) ∷ encodeQuestions (questionsPart b job)
   questions-section =

@@ -1,6 +1,6 @@
 -- What a job that was read says of the bytes, and where a job is read.
-use Prim.Native.Nat.{ℕ, _≤_}
-use mathlib.Core.Path.{_≡_, refl, sym}
+use Prim.Native.Nat.{ℕ, zero, suc, _+_, _≤_}
+use mathlib.Core.Path.{_≡_, refl, sym, ap}
 use mathlib.Core.Bool.{Bool, true, false, cond}
 use mathlib.Core.List.{List}
 use native.Mathlib.Nat.{le-antisymm}
@@ -11,7 +11,7 @@ use borrow.Author.Tests.{le-ltb, ltb-false}
 use Rattle.report.specs.declared.job.Job.{Job}
 use Rattle.report.specs.declared.job.JobReading.{JobReading}
 use Rattle.report.specs.declared.job.JobReading.the-variants.{Read}
-use Rattle.report.specs.Job.{badlyFormed, unlessShort, endRead, questionsRead, lineRead, grammarRead, lineAt, questionsAt, endAt, grammarCount, lineCount, questionCount, jobOf}
+use Rattle.report.specs.Job.{badlyFormed, unlessShort, endRead, questionsRead, lineRead, grammarRead, lineAt, questionsAt, endAt, grammarCount, lineCount, questionCount, jobOf, questionsFrom}
 
 -- the job whose counts stand in the bytes
 abbrev pub jobAt : List ℕ → Job
@@ -69,3 +69,9 @@ read-whole b short whole =
       le-ltb (length b) (endAt (jobAt b)) (omega arith),
       le-ltb (endAt (jobAt b)) (length b) (omega arith),
     )
+
+-- as many questions are read as are counted
+pub questions-count : (bytes : List ℕ) (count at : ℕ) → length (questionsFrom bytes count at) ≡ count
+unfolding questionsFrom
+questions-count bytes zero at = refl
+questions-count bytes (suc count) at = ap suc (questions-count bytes count (at + 3))

@@ -28,7 +28,7 @@ use Rattle.report.specs.declared.job.JobReading.the-variants.{Read, Refu
 use Rattle.report.specs.Job.{jobOf, questionsAt, grammarPart, linePart, questionsFrom, questionsPart, questionsOf}
 use Rattle.report.specs.Printed.{lentWords, lentDepths, roundsLine, factLines, marksLine, treeLines, unlessRefused, answerPieces, chartPieces, jobPieces, pieces}
 use Rattle.report.specs.Yielded.{Yielded}
-use Rattle.report.proofs.JobLaws.{JobRead, job-read}
+use Rattle.report.proofs.JobLaws.{JobRead, job-read, questions-count}
 
 -- there is a first piece
 chart-some : (g line : List ℕ) (questions : List Span) → 0 < length (chartPieces g line questions)
@@ -50,11 +50,6 @@ pieces-some input = go (jobOf input)
 -- the questions that stand in a row of bytes
 abbrev pub questionAt : List ℕ → ℕ → Span
 questionAt bytes at = record { category = byte bytes at; start = byte bytes (at + 1); end = byte bytes (at + 2) }
-
-pub questions-count : (bytes : List ℕ) (count at : ℕ) → length (questionsFrom bytes count at) ≡ count
-unfolding questionsFrom
-questions-count bytes zero at = refl
-questions-count bytes (suc count) at = ap suc (questions-count bytes count (at + 3))
 
 -- a list made of each question: the part of question k
 pub question-part : (f : Span → List ℕ) (bytes : List ℕ) (count at k : ℕ) → k < count → getD (map f (questionsFrom bytes count at)) k [] ≡ f (questionAt bytes (at + 3 * k))
