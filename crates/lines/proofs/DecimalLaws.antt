@@ -9,7 +9,7 @@ use lib.Seq.{take-set-le, drop-cons, drop-set-lt, getD-set-same, append-snoc}
 use borrow.Author.Tests.{lt-ltb, le-ltb}
 use Rattle.tree.specs.Bytes.{wrote}
 use Rattle.tree.proofs.ByteLaws.{wrote-none}
-use Rattle.lines.specs.Decimal.{digit, digits, decimal}
+use Rattle.lines.specs.Decimal.{digitCode, digits, decimal}
 
 -- room for more digits than there are changes nothing
 digits-enough : (most more n : ℕ) → n < most → n < more → digits most n ≡ digits more n
@@ -22,19 +22,19 @@ digits-enough (suc most) (suc more) n h k = go (decLt n 10) (digits-enough most 
     go (yes l) ih = rw (lt-ltb n 10 l)
     go (no l) ih = rw (le-ltb n 10 (omega arith), ih (omega arith) (omega arith))
 
-pub decimal-small : (n : ℕ) → n < 10 → decimal n ≡ digit n ∷ []
+pub decimal-small : (n : ℕ) → n < 10 → decimal n ≡ digitCode n ∷ []
 unfolding decimal digits
 decimal-small n l = rw (lt-ltb n 10 l)
 
 pub decimal-short : (n : ℕ) → n < 10 → length (decimal n) ≡ 1
 decimal-short n l = rw (decimal-small n l)
 
-pub decimal-more : (n : ℕ) → 10 ≤ n → decimal n ≡ decimal (n / 10) ++ (digit (n % 10) ∷ [])
+pub decimal-more : (n : ℕ) → 10 ≤ n → decimal n ≡ decimal (n / 10) ++ (digitCode (n % 10) ∷ [])
 unfolding decimal digits
 decimal-more n l = rw (le-ltb n 10 l, digits-enough n (suc (n / 10)) (n / 10) (omega arith) (omega arith))
 
 pub decimal-length : (n : ℕ) → 10 ≤ n → length (decimal n) ≡ length (decimal (n / 10)) + 1
-decimal-length n l = rw (decimal-more n l, length-append (decimal (n / 10)) (digit (n % 10) ∷ []))
+decimal-length n l = rw (decimal-more n l, length-append (decimal (n / 10)) (digitCode (n % 10) ∷ []))
 
 pub decimal-some : (n : ℕ) → 1 ≤ length (decimal n)
 decimal-some n = go (decLt n 10)
@@ -76,15 +76,15 @@ wrote-last row x at k d e l =
 -- the last digit and then those before it, or the only digit
 pub wrote-more :
     (row : List ℕ) (at rest place : ℕ) → 10 ≤ rest → place + 1 ≡ at + length (decimal rest) → place < length row →
-    wrote (set row place (digit (rest % 10))) at (decimal (rest / 10)) ≡ wrote row at (decimal rest)
+    wrote (set row place (digitCode (rest % 10))) at (decimal (rest / 10)) ≡ wrote row at (decimal rest)
 wrote-more row at rest place h e l =
     let shorter = decimal-length rest h in
-    wrote-last row (decimal (rest / 10)) at place (digit (rest % 10)) (omega arith) l ∙ rw (decimal-more rest h)
+    wrote-last row (decimal (rest / 10)) at place (digitCode (rest % 10)) (omega arith) l ∙ rw (decimal-more rest h)
 
 pub wrote-first :
     (row : List ℕ) (at rest place : ℕ) → rest < 10 → place + 1 ≡ at + length (decimal rest) → place < length row →
-    set row place (digit rest) ≡ wrote row at (decimal rest)
+    set row place (digitCode rest) ≡ wrote row at (decimal rest)
 wrote-first row at rest place h e l =
     let one = decimal-short rest h in
-    sym (wrote-none (set row place (digit rest)) at)
-    ∙ wrote-last row [] at place (digit rest) (omega arith) l ∙ rw (decimal-small rest h)
+    sym (wrote-none (set row place (digitCode rest)) at)
+    ∙ wrote-last row [] at place (digitCode rest) (omega arith) l ∙ rw (decimal-small rest h)

@@ -5,7 +5,7 @@ use mathlib.Core.List.{List, [], _∷_, _++_, append-assoc, append-nil, map}
 use native.Mathlib.Nat.{div-le-self, mod-le}
 use native.Mathlib.Omega.{arith}
 use lib.ListN.{length, getD, length-append}
-use Rattle.lines.specs.Decimal.{digit, decimal}
+use Rattle.lines.specs.Decimal.{digitCode, decimal}
 use Rattle.lines.specs.Lines.{text, spaced, lineOf, numbered, roundsAndFacts, marksOf}
 use Rattle.lines.specs.Listing.{depthLine, factLineAt, nodeLineAt}
 use Rattle.lines.proofs.DecimalLaws.{tens, decimal-few}
@@ -87,7 +87,7 @@ pub marks-none : text "marks" ++ (10 ∷ []) ≡ marksOf []
 unfolding marksOf lineOf spaced
 marks-none = refl
 
-pub marks-parts : (marks : List ℕ) → 0 < length marks → text "marks" ++ ((32 ∷ []) ++ (map digit marks ++ (10 ∷ []))) ≡ marksOf marks
+pub marks-parts : (marks : List ℕ) → 0 < length marks → text "marks" ++ ((32 ∷ []) ++ (map digitCode marks ++ (10 ∷ []))) ≡ marksOf marks
 unfolding marksOf lineOf spaced
 marks-parts [] h = absurd (omega arith)
-marks-parts (mark ∷ others) h = rw (append-nil (map digit others))
+marks-parts (mark ∷ others) h = rw (append-nil (map digitCode others))

@@ -10,34 +10,35 @@ use lib.Seq.{take-suc, sets-eq, length-take-le}
 use Rattle.derivation.specs.Listing.{listed, gathered}
 use Rattle.tree.specs.Bytes.{wrote}
 use Rattle.tree.proofs.ByteLaws.{length-wrote, wrote-none, wrote-more}
-use Rattle.lines.specs.Decimal.{digit, decimal, Written}
+use Rattle.lines.specs.Decimal.{digitCode, decimal}
+use Rattle.lines.specs.Stored.{Stored}
 use Rattle.lines.specs.Lines.{spaced}
 
-pub written-none : (row : List ℕ) (at : ℕ) → Written row at [] row at
-written-none row at = record { holds = sym (wrote-none row at); after = omega arith }
+pub stored-none : (row : List ℕ) (at : ℕ) → Stored row at [] row at
+stored-none row at = record { holds = sym (wrote-none row at); after = omega arith }
 
 -- what is written leaves the row its length
-pub written-long : {row x out : List ℕ} {at next : ℕ} → at + length x ≤ length row → Written row at x out next → length out ≡ length row
-written-long {row} {x} {out} {at} h w = ap length (w .holds) ∙ length-wrote row at x h
+pub stored-long : {row x out : List ℕ} {at next : ℕ} → at + length x ≤ length row → Stored row at x out next → length out ≡ length row
+stored-long {row} {x} {out} {at} h w = ap length (w .holds) ∙ length-wrote row at x h
 
 -- what is written right after
-pub written-then : {row x y a b : List ℕ} {at m n : ℕ} → at + (length x + length y) ≤ length row → Written row at x a m → Written a m y b n → Written row at (x ++ y) b n
-written-then {row} {x} {y} {at = at} h p q =
+pub stored-then : {row x y a b : List ℕ} {at m n : ℕ} → at + (length x + length y) ≤ length row → Stored row at x a m → Stored a m y b n → Stored row at (x ++ y) b n
+stored-then {row} {x} {y} {at = at} h p q =
     record {
       holds = q .holds ∙ rw (p .holds, p .after) (wrote-more row at x y h);
       after = omega (arith, q .after, p .after, length-append x y);
     }
 
 -- a byte is stored
-pub written-byte : (row : List ℕ) (at b : ℕ) → at < length row → Written row at (b ∷ []) (set row at b) (at + 1)
+pub stored-byte : (row : List ℕ) (at b : ℕ) → at < length row → Stored row at (b ∷ []) (set row at b) (at + 1)
 unfolding wrote
-written-byte row at b h = record { holds = sets-eq (b ∷ []) row at (omega arith) ∙ append-assoc (take at row) (b ∷ []) (drop (at + 1) row); after = refl }
+stored-byte row at b h = record { holds = sets-eq (b ∷ []) row at (omega arith) ∙ append-assoc (take at row) (b ∷ []) (drop (at + 1) row); after = refl }
 
 -- a byte more is stored
-pub written-more : {row x out : List ℕ} {at place : ℕ} (b : ℕ) → at + length x < length row → Written row at x out place → Written row at (x ++ (b ∷ [])) (set out place b) (place + 1)
-written-more {out = out} {place = place} b h w =
-    let long = written-long (omega arith) w in
-    written-then (omega arith) w (written-byte out place b (omega (arith, w .after)))
+pub stored-more : {row x out : List ℕ} {at place : ℕ} (b : ℕ) → at + length x < length row → Stored row at x out place → Stored row at (x ++ (b ∷ [])) (set out place b) (place + 1)
+stored-more {out = out} {place = place} b h w =
+    let long = stored-long (omega arith) w in
+    stored-then (omega arith) w (stored-byte out place b (omega (arith, w .after)))
 
 -- one element more of a list
 pub take-more : (l : List ℕ) (i : ℕ) → i < length l → take (i + 1) l ≡ take i l ++ (getD l i 0 ∷ [])
@@ -72,11 +73,11 @@ numbers-room numbers i h = omega (arith, numbers-few numbers (i + 1), simp lengt
 
 -- the digits of the first t marks
 module _ (marks : List ℕ) (t : ℕ) where
-  pub digits-more : t < length marks → map digit (take (t + 1) marks) ≡ map digit (take t marks) ++ (digit (getD marks t 0) ∷ [])
-  digits-more h = rw (take-more marks t h) (map-append digit (take t marks) (getD marks t 0 ∷ []))
+  pub digits-more : t < length marks → map digitCode (take (t + 1) marks) ≡ map digitCode (take t marks) ++ (digitCode (getD marks t 0) ∷ [])
+  digits-more h = rw (take-more marks t h) (map-append digitCode (take t marks) (getD marks t 0 ∷ []))
 
-  pub digits-long : t ≤ length marks → length (map digit (take t marks)) ≡ t
-  digits-long h = length-map (take t marks) digit ∙ length-take-le t marks h
+  pub digits-long : t ≤ length marks → length (map digitCode (take t marks)) ≡ t
+  digits-long h = length-map (take t marks) digitCode ∙ length-take-le t marks h
 
 -- lists gathered one by one, each of at most b bytes
 module _ {X : Type 0} (f : ℕ → List X) where
@@ -104,16 +105,16 @@ module _ {X : Type 0} (f : ℕ → List X) where
 
 -- a row into which lists are gathered that have room, each of at most b bytes, n in all
 module _ {row : List ℕ} {at : ℕ} (b n : ℕ) (f : ℕ → List ℕ) (few : (k : ℕ) → k < n → length (f k) ≤ b) (room : at + b * n ≤ length row) where
-  pub gather-none : Written row at (gathered 0 f) row at
+  pub gather-none : Stored row at (gathered 0 f) row at
   unfolding gathered listed flatten
-  gather-none = written-none row at
+  gather-none = stored-none row at
 
-  module _ {q place : ℕ} {out : List ℕ} (w : Written row at (gathered q f) out place) where
+  module _ {q place : ℕ} {out : List ℕ} (w : Stored row at (gathered q f) out place) where
     fits : q ≤ n → length (gathered q f) ≤ b * q
     fits h = gathered-few f b q (λ k l. few k (omega arith))
 
     pub gather-long : q ≤ n → length out ≡ length row
-    gather-long h = let m : b * q ≤ b * n = mul-le-mul-left b h in written-long (omega (arith, fits h)) w
+    gather-long h = let m : b * q ≤ b * n = mul-le-mul-left b h in stored-long (omega (arith, fits h)) w
 
     pub gather-few : q ≤ n → place ≤ at + b * q
     gather-few h = omega (arith, fits h, w .after)
@@ -123,5 +124,5 @@ module _ {row : List ℕ} {at : ℕ} (b n : ℕ) (f : ℕ → List ℕ) (few : (
     gather-room h = let m : b * suc q ≤ b * n = mul-le-mul-left b h in omega (arith, fits (omega arith), gather-long (omega arith), w .after)
 
     -- and is written
-    pub gather-more : {place′ : ℕ} {out′ : List ℕ} → q < n → Written out place (f q) out′ place′ → Written row at (gathered (q + 1) f) out′ place′
-    gather-more h next = let m : b * suc q ≤ b * n = mul-le-mul-left b h in rw (gathered-more f q) (written-then (omega (arith, fits (omega arith), few q h)) w next)
+    pub gather-more : {place′ : ℕ} {out′ : List ℕ} → q < n → Stored out place (f q) out′ place′ → Stored row at (gathered (q + 1) f) out′ place′
+    gather-more h next = let m : b * suc q ≤ b * n = mul-le-mul-left b h in rw (gathered-more f q) (stored-then (omega (arith, fits (omega arith), few q h)) w next)

@@ -1,3 +1,4 @@
+pub mod Stored
 pub mod Decimal
 pub mod Lines
 pub mod Listing

@@ -3,7 +3,7 @@ use Prim.Native.Nat.{ℕ}
 use Prim.Native.Char.{code}
 use Prim.Native.String.{String, [] as empty, _∷_ as _then_}
 use mathlib.Core.List.{List, [], _∷_, _++_, map}
-use Rattle.lines.specs.Decimal.{digit, decimal}
+use Rattle.lines.specs.Decimal.{digitCode, decimal}
 
 -- the ASCII codes of a word
 unfoldable pub text : String → List ℕ
@@ -30,7 +30,7 @@ roundsAndFacts rounds facts = lineOf "rounds" (decimal rounds ∷ text "facts" �
 -- the marks' digits are one field; on an empty line there is none
 abbrev pub marksFields : List ℕ → List (List ℕ)
 marksFields [] = []
-marksFields (mark ∷ others) = map digit (mark ∷ others) ∷ []
+marksFields (mark ∷ others) = map digitCode (mark ∷ others) ∷ []
 
 -- marks and their digits
 unfoldable pub marksOf : List ℕ → List ℕ

@@ -2,7 +2,8 @@
 ghost use mathlib.Core.Path.{_≡_};
 ghost use Prim.Native.Nat.{_+_, _≤_};
 ghost use lib.ListN.{length};
-ghost use Rattle.lines.specs.Decimal.{decimal, Written};
+ghost use Rattle.lines.specs.Decimal.{decimal};
+ghost use Rattle.lines.specs.Stored.{Stored};
 
 // How many digits a number has.
 pub fn digit_count(n: usize) -> usize
@@ -20,7 +21,7 @@ pub fn digit_count(n: usize) -> usize
 // Writes the digits from a place on, and answers the place after them.
 pub fn write_decimal(out: &mut [u8], at: usize, n: usize) -> usize
     requires { ⌜ at + length (decimal n) ≤ length (now out) ⌝ }
-    ensures { λ r. ⌜ Written (now (out .entry)) at (decimal n) (now (out .exit)) r ⌝ }
+    ensures { λ r. ⌜ Stored (now (out .entry)) at (decimal n) (now (out .exit)) r ⌝ }
 {
     let end = at + digit_count(n);
     let mut place = end - 1;

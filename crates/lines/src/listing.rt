@@ -3,7 +3,8 @@ ghost use mathlib.Core.List.{map};
 ghost use Prim.Native.Nat.{ℕ, _+_, _*_, _≤_, _<_};
 ghost use lib.ListN.{length, getD, take};
 ghost use Rattle.derivation.specs.Listing.{gathered};
-ghost use Rattle.lines.specs.Decimal.{digit, Written};
+ghost use Rattle.lines.specs.Decimal.{digitCode};
+ghost use Rattle.lines.specs.Stored.{Stored};
 ghost use Rattle.lines.specs.Lines.{marksOf};
 ghost use Rattle.lines.specs.Listing.{depthLine, factLineAt, nodeLineAt};
 use super::writing::write_byte;
@@ -20,7 +21,7 @@ fn write_fact(
     depth: usize,
 ) -> usize
     requires { ⌜ (category < 100000) × (start < 100000) × (end < 100000) × (depth < 100000) × (at + 29 ≤ length (now out)) ⌝ }
-    ensures { λ r. ⌜ Written (now (out .entry)) at (depthLine category start end depth) (now (out .exit)) r ⌝ }
+    ensures { λ r. ⌜ Stored (now (out .entry)) at (depthLine category start end depth) (now (out .exit)) r ⌝ }
 {
     if depth == 0 {
         return at;
@@ -32,7 +33,7 @@ fn write_fact(
 // Writes the lines of facts whose depths are so many numbers in rows of a width.
 pub fn write_facts(out: &mut [u8], at: usize, depths: &[u16], numbers: usize, width: usize) -> usize
     requires { ⌜ (0 < width) × (numbers ≤ length (now depths)) × (numbers ≤ 16384) × (at + 29 * numbers ≤ length (now out)) ⌝ }
-    ensures { λ r. ⌜ Written (now (out .entry)) at (gathered numbers (factLineAt (now (depths .entry)) width)) (now (out .exit)) r × (r ≤ at + 29 * numbers) ⌝ }
+    ensures { λ r. ⌜ Stored (now (out .entry)) at (gathered numbers (factLineAt (now (depths .entry)) width)) (now (out .exit)) r × (r ≤ at + 29 * numbers) ⌝ }
 {
     let mut place = at;
     let mut q = 0;
@@ -48,7 +49,7 @@ pub fn write_facts(out: &mut [u8], at: usize, depths: &[u16], numbers: usize, wi
 // Writes a line for each node of four bytes.
 pub fn write_nodes(out: &mut [u8], at: usize, nodes: &[u8], count: usize) -> usize
     requires { ⌜ (4 * count ≤ length (now nodes)) × (at + 21 * count ≤ length (now out)) ⌝ }
-    ensures { λ r. ⌜ Written (now (out .entry)) at (gathered count (nodeLineAt (now (nodes .entry)))) (now (out .exit)) r × (r ≤ at + 21 * count) ⌝ }
+    ensures { λ r. ⌜ Stored (now (out .entry)) at (gathered count (nodeLineAt (now (nodes .entry)))) (now (out .exit)) r × (r ≤ at + 21 * count) ⌝ }
 {
     let mut place = at;
     let mut k = 0;
@@ -69,7 +70,7 @@ pub fn write_nodes(out: &mut [u8], at: usize, nodes: &[u8], count: usize) -> usi
 // Writes the line of the first n marks.
 pub fn write_marks(out: &mut [u8], marks: &[u8], n: usize) -> usize
     requires { ⌜ (n ≤ length (now marks)) × (n + 7 ≤ length (now out)) × ((t : ℕ) → t < n → getD (now marks) t 0 ≤ 1) ⌝ }
-    ensures { λ r. ⌜ Written (now (out .entry)) 0 (marksOf (take n (now (marks .entry)))) (now (out .exit)) r ⌝ }
+    ensures { λ r. ⌜ Stored (now (out .entry)) 0 (marksOf (take n (now (marks .entry)))) (now (out .exit)) r ⌝ }
 {
     let named = write_bytes(out, 0, b"marks");
     if n == 0 {
@@ -83,7 +84,7 @@ pub fn write_marks(out: &mut [u8], marks: &[u8], n: usize) -> usize
 // Writes a digit for each of the first n marks.
 fn write_digits(out: &mut [u8], at: usize, marks: &[u8], n: usize) -> usize
     requires { ⌜ (n ≤ length (now marks)) × (at + n ≤ length (now out)) × ((t : ℕ) → t < n → getD (now marks) t 0 ≤ 1) ⌝ }
-    ensures { λ r. ⌜ Written (now (out .entry)) at (map digit (take n (now (marks .entry)))) (now (out .exit)) r ⌝ }
+    ensures { λ r. ⌜ Stored (now (out .entry)) at (map digitCode (take n (now (marks .entry)))) (now (out .exit)) r ⌝ }
 {
     let mut t = 0;
     while t < n {

@@ -23,7 +23,7 @@ use Rattle.report.specs.Job.{jobOf, questionsFrom}
 use Rattle.lines.specs.Decimal.{digits, decimal}
 use Rattle.lines.specs.Lines.{text, spaced, lineOf, numbered, roundsAndFacts, marksOf}
 use Rattle.tree.specs.Bytes.{bytes}
-use Rattle.report.specs.Printed.{lentWords, lentDepths, lentTree, refusedLine, roundsLine, factLine, factLines, marksLine, nodeLine, treeLines, answerLines, chartPrinted, printed}
+use Rattle.report.specs.Printed.{lentWords, lentDepths, lentTree, refusedLine, roundsLine, factLine, factLines, marksLine, nodeLine, treeLines, answerPieces, chartPieces, pieces, printed}
 
 -- the document's job: 15 grammar bytes, 6 tokens, 1 question
 abbrev documentJob : List ℕ
@@ -52,10 +52,10 @@ pub examples :
     × (printed (7 ∷ []) ≡ text "refused 13 1\n")
     × (printed (2 ∷ 0 ∷ 1 ∷ 0 ∷ 0 ∷ 0 ∷ []) ≡ text "refused 1 2\n")
     × (printed (2 ∷ 0 ∷ 1 ∷ 0 ∷ 0 ∷ 0 ∷ 9 ∷ []) ≡ text "refused 13 6\n")
-unfolding roundsAndFacts marksOf printed refusedLine jobOf questionsFrom chartPrinted answerLines treeLines nodeLine marksLine factLines factLine roundsLine lentWords lentDepths lentTree bytes numbered lineOf spaced text decimal digits readOf sectionsOf flagsSection rulesSection rulesFrom ruleFrom eachFrom grammarOf rulesAt standing lineCheck tokensFrom startCheck spanCheck roundsOf greatest factCount total facts factList gathered kept marks secret covered shown chosen chosenRow chosenEnd chosenRule below firstFrom depthOf depths table listed isFound seen grade round children child tokenIs some flatten
+unfolding roundsAndFacts marksOf printed pieces refusedLine jobOf questionsFrom chartPieces answerPieces treeLines nodeLine marksLine factLines factLine roundsLine lentWords lentDepths lentTree bytes numbered lineOf spaced text decimal digits readOf sectionsOf flagsSection rulesSection rulesFrom ruleFrom eachFrom grammarOf rulesAt standing lineCheck tokensFrom startCheck spanCheck roundsOf greatest factCount total facts factList gathered kept marks secret covered shown chosen chosenRow chosenEnd chosenRule below firstFrom depthOf depths table listed isFound seen grade round children child tokenIs some flatten
 examples = (refl, refl, refl, refl, refl, refl, refl)
 
 -- more than 4,096 bytes, whatever they are
 pub long-printed : (input : List ℕ) → 4096 < length input → printed input ≡ text "refused 13 4096\n"
-unfolding roundsAndFacts marksOf printed jobOf refusedLine numbered lineOf spaced text decimal digits
+unfolding flatten printed pieces jobOf refusedLine numbered lineOf spaced text decimal digits
 long-printed input long = rw (lt-ltb 4096 (length input) long)

@@ -14,15 +14,10 @@ use Rattle.grammar.proofs.Encoding.{byte-is, byte-after, bytes-are, bytes-after
 use Rattle.report.specs.declared.job.Job.{Job}
 use Rattle.report.specs.declared.job.JobReading.the-variants.{Read}
 use Rattle.report.specs.Job.{lineAt, questionsAt, endAt, grammarCount, jobOf, grammarPart, linePart, questionsFrom, questionsPart}
-use Rattle.report.specs.JobEncoding.{Bytes, encodeQuestions, encodeJob, JobWithin}
-use Rattle.report.proofs.JobLaws.{jobAt, job-read, read-whole}
+use Rattle.report.specs.JobEncoding.{AreBytes, encodeQuestions, encodeJob, JobWithin}
+use Rattle.report.proofs.JobLaws.{jobAt, job-read, read-whole, questions-count}
 
 -- the questions that stand from an offset to the end
-questions-length : (b : List ℕ) (count at : ℕ) → length (questionsFrom b count at) ≡ count
-unfolding questionsFrom
-questions-length b zero at = refl
-questions-length b (suc count) at = ap suc (questions-length b count (at + 3))
-
 questions-encoded : (b : List ℕ) (count at : ℕ) → length b ≡ at + 3 * count → drop at b ≡ encodeQuestions (questionsFrom b count at)
 unfolding questionsFrom encodeQuestions
 questions-encoded b zero at e = let z : at ≡ length b = omega arith in rw z (drop-length b)
@@ -42,7 +37,7 @@ sections-encode b grammar line questions inside low high sections =
     drop-cons b 0 0 (omega arith) ∙ rw (drop-cons b 1 0 (omega arith), low, high, sections)
 
 -- what was read is the encoding of its parts
-module _ (b : List ℕ) (bytes : Bytes b) (whole : length b ≡ endAt (jobAt b)) where
+module _ (b : List ℕ) (bytes : AreBytes b) (whole : length b ≡ endAt (jobAt b)) where
   abbrev job : Job
   job = jobAt b
 
@@ -53,7 +48,7 @@ module _ (b : List ℕ) (bytes : Bytes b) (whole : length b ≡ endAt (jobAt b))
   line-length = part-length b (job .line) (lineAt (job .grammar)) (omega arith)
 
   question-length : length (questionsPart b job) ≡ job .questions
-  question-length = questions-length b (job .questions) (questionsAt (job .grammar) (job .line))
+  question-length = questions-count b (job .questions) (questionsAt (job .grammar) (job .line))
 
   questions-section : drop (3 + job .grammar + job .line) b ≡ length (questionsPart b job) ∷ encodeQuestions (questionsPart b job)
   questions-section =
@@ -165,7 +160,7 @@ module _ (b grammar line : List ℕ) (questions : List Span) (e : b ≡ encodeJo
 
 -- bytes are read as a job exactly when they are the encoding of some grammar bytes, a line and questions, within the limits
 pub job-iff :
-    (b : List ℕ) → Bytes b →
+    (b : List ℕ) → AreBytes b →
     ((job : Job) × (jobOf b ≡ Read job)) ↔ ((grammar : List ℕ) × (line : List ℕ) × (questions : List Span) × JobWithin grammar line questions × (b ≡ encodeJob grammar line questions))
 job-iff b bytes = (
   λ r. let read = job-read b (r .0) (r .1) in

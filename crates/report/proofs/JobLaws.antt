@@ -1,6 +1,6 @@
 -- What a job that was read says of the bytes, and where a job is read.
-use Prim.Native.Nat.{ℕ, _≤_}
-use mathlib.Core.Path.{_≡_, refl, sym}
+use Prim.Native.Nat.{ℕ, zero, suc, _+_, _≤_}
+use mathlib.Core.Path.{_≡_, refl, sym, ap}
 use mathlib.Core.Bool.{Bool, true, false, cond}
 use mathlib.Core.List.{List}
 use native.Mathlib.Nat.{le-antisymm}
@@ -11,7 +11,7 @@ use borrow.Author.Tests.{le-ltb, ltb-false}
 use Rattle.report.specs.declared.job.Job.{Job}
 use Rattle.report.specs.declared.job.JobReading.{JobReading}
 use Rattle.report.specs.declared.job.JobReading.the-variants.{Read}
-use Rattle.report.specs.Job.{badlyFormed, reaching, nothingAfter, questionsRead, lineRead, grammarRead, lineAt, questionsAt, endAt, grammarCount, lineCount, questionCount, jobOf}
+use Rattle.report.specs.Job.{badlyFormed, unlessShort, endRead, questionsRead, lineRead, grammarRead, lineAt, questionsAt, endAt, grammarCount, lineCount, questionCount, jobOf, questionsFrom}
 
 -- the job whose counts stand in the bytes
 abbrev pub jobAt : List ℕ → Job
@@ -37,19 +37,19 @@ read-left true at go job e = absurd (never e)
 read-same : (one other : Job) → Read one ≡ Read other → one ≡ other
 read-same one other e = cc
 
-reaching-read : (b : List ℕ) (end : ℕ) (go : JobReading) (job : Job) → reaching b end go ≡ Read job → (end ≤ length b) × (go ≡ Read job)
-reaching-read b end go job e = let r = read-left (ltb (length b) end) (length b) go job e in (ltb-false (length b) end (r .0), r .1)
+unless-short-read : (b : List ℕ) (end : ℕ) (go : JobReading) (job : Job) → unlessShort b end go ≡ Read job → (end ≤ length b) × (go ≡ Read job)
+unless-short-read b end go job e = let r = read-left (ltb (length b) end) (length b) go job e in (ltb-false (length b) end (r .0), r .1)
 
 pub job-read : (b : List ℕ) (job : Job) → jobOf b ≡ Read job → JobRead b job
 unfolding jobOf
 job-read b job e =
     let grammar = grammarCount b in
     let line = lineCount b grammar in
-    let short = read-left (ltb 4096 (length b)) 4096 (reaching b 2 (grammarRead b grammar)) job e in
-    let counted = reaching-read b 2 (grammarRead b grammar) job (short .1) in
-    let grammars = reaching-read b (lineAt grammar) (lineRead b grammar line) job (counted .1) in
-    let lines = reaching-read b (questionsAt grammar line) (questionsRead b (jobAt b)) job (grammars .1) in
-    let questions = reaching-read b (endAt (jobAt b)) (nothingAfter b (jobAt b)) job (lines .1) in
+    let short = read-left (ltb 4096 (length b)) 4096 (unlessShort b 2 (grammarRead b grammar)) job e in
+    let counted = unless-short-read b 2 (grammarRead b grammar) job (short .1) in
+    let grammars = unless-short-read b (lineAt grammar) (lineRead b grammar line) job (counted .1) in
+    let lines = unless-short-read b (questionsAt grammar line) (questionsRead b (jobAt b)) job (grammars .1) in
+    let questions = unless-short-read b (endAt (jobAt b)) (endRead b (jobAt b)) job (lines .1) in
     let after = read-left (ltb (endAt (jobAt b)) (length b)) (endAt (jobAt b)) (Read (jobAt b)) job (questions .1) in
     let same : jobAt b ≡ job = read-same (jobAt b) job (after .1) in
     let low : endAt (jobAt b) ≤ length b = questions .0 in
@@ -69,3 +69,9 @@ read-whole b short whole =
       le-ltb (length b) (endAt (jobAt b)) (omega arith),
       le-ltb (endAt (jobAt b)) (length b) (omega arith),
     )
+
+-- as many questions are read as are counted
+pub questions-count : (bytes : List ℕ) (count at : ℕ) → length (questionsFrom bytes count at) ≡ count
+unfolding questionsFrom
+questions-count bytes zero at = refl
+questions-count bytes (suc count) at = ap suc (questions-count bytes count (at + 3))

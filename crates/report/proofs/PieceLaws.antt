@@ -1,8 +1,8 @@
--- The pieces put together are what is printed; which piece stands where; the questions that bytes hold.
+-- How many pieces there are, and which stands where; the questions that bytes hold; a piece that is yielded.
 use Prim.Native.Nat.{ℕ, zero, suc, _+_, _-_, _*_, _/_, _≤_, _<_}
 use mathlib.Core.Path.{_≡_, refl, sym, _∙_, ap}
 use mathlib.Core.Bool.{Bool}
-use mathlib.Core.List.{List, [], _∷_, _++_, append-assoc, append-nil, map, flatten}
+use mathlib.Core.List.{List, [], _∷_, _++_, map}
 use native.Mathlib.Numerals.{add-one}
 use native.Mathlib.Nat.{zero-add, add-zero, add-assoc}
 use native.Mathlib.Decide.{decLt}
@@ -19,40 +19,23 @@ use Rattle.grammar.specs.Given.{grammarGiven}
 use Rattle.grammar.specs.Reading.{byte}
 use Rattle.chart.specs.Checks.{chartChecks}
 use Rattle.tree.specs.Bytes.{wrote}
-use Rattle.lines.specs.Decimal.{Written}
-use Rattle.lines.proofs.WriteLaws.{written-none}
+use Rattle.lines.specs.Stored.{Stored}
+use Rattle.lines.proofs.WriteLaws.{stored-none}
 use Rattle.report.specs.declared.Piece.{Piece}
 use Rattle.report.specs.declared.job.Job.{Job}
 use Rattle.report.specs.declared.job.JobReading.{JobReading}
 use Rattle.report.specs.declared.job.JobReading.the-variants.{Read, Refused}
-use Rattle.report.specs.Job.{jobOf, questionsAt, grammarPart, linePart, questionsFrom, questionsPart}
-use Rattle.report.specs.Printed.{lentWords, lentDepths, refusedLine, roundsLine, factLines, marksLine, treeLines, unlessRefused, answerLines, chartPrinted, jobPrinted, printed}
-use Rattle.report.specs.Pieces.{unlessAlone, answerPieces, chartPieces, jobPieces, pieces, questionsOf, Yielded}
-use Rattle.report.proofs.JobLaws.{JobRead, job-read}
-
-chart-pieces : (g line : List ℕ) (questions : List Span) → flatten (chartPieces g line questions) ≡ chartPrinted g line questions
-unfolding chartPieces chartPrinted answerPieces answerLines flatten
-chart-pieces g line questions = go (reported (chartChecks g line lentWords lentDepths))
-  where
-    go : (c : Check) → flatten (unlessAlone c (answerPieces g line questions)) ≡ unlessRefused c (answerLines g line questions)
-    go (check.Refused refusal) = append-nil (refusedLine refusal)
-    go check.Passed = append-assoc (roundsLine (grammarGiven g) line) (factLines (grammarGiven g) line) (marksLine (grammarGiven g) line ++ flatten (map (treeLines g line) questions))
-
--- the pieces put together are what is printed
-pub pieces-printed : (input : List ℕ) → flatten (pieces input) ≡ printed input
-unfolding pieces printed flatten
-pieces-printed input = go (jobOf input)
-  where
-    go : (r : JobReading) → flatten (jobPieces input r) ≡ jobPrinted input r
-    go (Refused refusal) = append-nil (refusedLine refusal)
-    go (Read job) = chart-pieces (grammarPart input job) (linePart input job) (questionsPart input job)
+use Rattle.report.specs.Job.{jobOf, questionsAt, grammarPart, linePart, questionsFrom, questionsPart, questionsOf}
+use Rattle.report.specs.Printed.{lentWords, lentDepths, roundsLine, factLines, marksLine, treeLines, unlessRefused, answerPieces, chartPieces, jobPieces, pieces}
+use Rattle.report.specs.Yielded.{Yielded}
+use Rattle.report.proofs.JobLaws.{JobRead, job-read, questions-count}
 
 -- there is a first piece
 chart-some : (g line : List ℕ) (questions : List Span) → 0 < length (chartPieces g line questions)
 unfolding chartPieces answerPieces
 chart-some g line questions = go (reported (chartChecks g line lentWords lentDepths))
   where
-    go : (c : Check) → 0 < length (unlessAlone c (answerPieces g line questions))
+    go : (c : Check) → 0 < length (unlessRefused c (answerPieces g line questions))
     go (check.Refused refusal) = omega arith
     go check.Passed = omega arith
 
@@ -67,11 +50,6 @@ pieces-some input = go (jobOf input)
 -- the questions that stand in a row of bytes
 abbrev pub questionAt : List ℕ → ℕ → Span
 questionAt bytes at = record { category = byte bytes at; start = byte bytes (at + 1); end = byte bytes (at + 2) }
-
-pub questions-count : (bytes : List ℕ) (count at : ℕ) → length (questionsFrom bytes count at) ≡ count
-unfolding questionsFrom
-questions-count bytes zero at = refl
-questions-count bytes (suc count) at = ap suc (questions-count bytes count (at + 3))
 
 -- a list made of each question: the part of question k
 pub question-part : (f : Span → List ℕ) (bytes : List ℕ) (count at k : ℕ) → k < count → getD (map f (questionsFrom bytes count at)) k [] ≡ f (questionAt bytes (at + 3 * k))
@@ -98,11 +76,11 @@ questions-moved bytes part offset (suc count) at h =
 
 -- piece k is written, or there is none
 module _ (all : List (List ℕ)) (k : ℕ) {row : List ℕ} (more : Bool) (follows : more ≡ ltb (suc k) (length all)) where
-  pub piece-written : (bytes : List ℕ) {row′ : List ℕ} {n : ℕ} → getD all k [] ≡ bytes → Written row 0 bytes row′ n → Yielded all k row row′ (record { length = n; more = more })
-  piece-written bytes e w = record { holds = rw e (w .holds); long = rw e (w .after ∙ zero-add (length bytes)); more = follows }
+  pub piece-stored : (bytes : List ℕ) {row′ : List ℕ} {n : ℕ} → getD all k [] ≡ bytes → Stored row 0 bytes row′ n → Yielded all k row row′ (record { length = n; more = more })
+  piece-stored bytes e w = record { holds = rw e (w .holds); long = rw e (w .after ∙ zero-add (length bytes)); more = follows }
 
   pub piece-none : getD all k [] ≡ [] → Yielded all k row row (record { length = 0; more = more })
-  piece-none e = piece-written [] e (written-none row 0)
+  piece-none e = piece-stored [] e (stored-none row 0)
 
 -- past the only piece there is none
 pub none-after-one : (bytes : List ℕ) (k : ℕ) → 0 < k → getD (bytes ∷ []) k [] ≡ []
@@ -161,7 +139,7 @@ chart-few : (g line : List ℕ) (questions : List Span) → length questions ≤
 unfolding chartPieces answerPieces
 chart-few g line questions h = go (reported (chartChecks g line lentWords lentDepths))
   where
-    go : (c : Check) → length (unlessAlone c (answerPieces g line questions)) ≤ 4098
+    go : (c : Check) → length (unlessRefused c (answerPieces g line questions)) ≤ 4098
     go (check.Refused refusal) = omega arith
     go check.Passed = omega (arith, length-map questions (treeLines g line))
 

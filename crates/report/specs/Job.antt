@@ -1,5 +1,5 @@
 -- How a job's bytes are read: three sections, each after its count, and nothing after them.
-use Prim.Native.Nat.{ℕ, zero, suc, _+_, _*_}
+use Prim.Native.Nat.{ℕ, zero, suc, _+_, _*_, _/_}
 use mathlib.Core.Bool.{cond}
 use mathlib.Core.List.{List, [], _∷_}
 use lib.ListN.{length, take, drop}
@@ -16,8 +16,8 @@ abbrev pub badlyFormed : ℕ → JobReading
 badlyFormed at = Refused (JobBadlyFormed at)
 
 -- the input ends early where it has fewer bytes than `end`; the place is its length
-abbrev pub reaching : List ℕ → ℕ → JobReading → JobReading
-reaching input end go = cond (ltb (length input) end) (badlyFormed (length input)) go
+abbrev pub unlessShort : List ℕ → ℕ → JobReading → JobReading
+unlessShort input end go = cond (ltb (length input) end) (badlyFormed (length input)) go
 
 -- where the line and the questions begin, after their counts, and where the questions end
 abbrev pub lineAt : ℕ → ℕ
@@ -40,26 +40,26 @@ abbrev pub questionCount : List ℕ → ℕ → ℕ → ℕ
 questionCount input grammar line = byte input (3 + grammar + line)
 
 -- nothing stands after the questions
-abbrev pub nothingAfter : List ℕ → Job → JobReading
-nothingAfter input job = cond (ltb (endAt job) (length input)) (badlyFormed (endAt job)) (Read job)
+abbrev pub endRead : List ℕ → Job → JobReading
+endRead input job = cond (ltb (endAt job) (length input)) (badlyFormed (endAt job)) (Read job)
 
 -- the questions, three bytes each
 abbrev pub questionsRead : List ℕ → Job → JobReading
-questionsRead input job = reaching input (endAt job) (nothingAfter input job)
+questionsRead input job = unlessShort input (endAt job) (endRead input job)
 
 -- the line, and the count of the questions
 abbrev pub lineRead : List ℕ → ℕ → ℕ → JobReading
 lineRead input grammar line =
-    reaching input (questionsAt grammar line)
+    unlessShort input (questionsAt grammar line)
     (questionsRead input (record { grammar = grammar; line = line; questions = questionCount input grammar line }))
 
 -- the grammar bytes, and the count of the line
 abbrev pub grammarRead : List ℕ → ℕ → JobReading
-grammarRead input grammar = reaching input (lineAt grammar) (lineRead input grammar (lineCount input grammar))
+grammarRead input grammar = unlessShort input (lineAt grammar) (lineRead input grammar (lineCount input grammar))
 
 -- at most 4,096 bytes, tested first; then the sections in their order
 unfoldable pub jobOf : List ℕ → JobReading
-jobOf input = cond (ltb 4096 (length input)) (badlyFormed 4096) (reaching input 2 (grammarRead input (grammarCount input)))
+jobOf input = cond (ltb 4096 (length input)) (badlyFormed 4096) (unlessShort input 2 (grammarRead input (grammarCount input)))
 
 -- the three parts of a job that was read
 abbrev pub grammarPart : List ℕ → Job → List ℕ
@@ -76,3 +76,7 @@ questionsFrom input (suc count) at =
 
 abbrev pub questionsPart : List ℕ → Job → List Span
 questionsPart input job = questionsFrom input (job .questions) (questionsAt (job .grammar) (job .line))
+
+-- the questions that bytes hold, three each
+abbrev pub questionsOf : List ℕ → List Span
+questionsOf bytes = questionsFrom bytes (length bytes / 3) 0

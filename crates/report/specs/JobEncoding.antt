@@ -6,8 +6,8 @@ use Rattle.derivation.specs.FactList.{Span, spanNumbers}
 use Rattle.grammar.specs.Reading.{byte}
 
 -- a list of bytes
-abbrev pub Bytes : List ℕ → Type 0
-Bytes b = (i : ℕ) → byte b i < 256
+abbrev pub AreBytes : List ℕ → Type 0
+AreBytes b = (i : ℕ) → byte b i < 256
 
 -- a question: A, i, j
 unfoldable pub encodeQuestions : List Span → List ℕ

@@ -1,5 +1,5 @@
 pub mod Job
 pub mod JobEncoding
 pub mod Printed
+pub mod Yielded
 pub mod Checked
-pub mod Pieces

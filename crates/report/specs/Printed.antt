@@ -1,4 +1,4 @@
--- What the program prints, for every input.
+-- What the program prints, for every input: the lines, the pieces that they make, and the pieces put together.
 use Prim.Native.Nat.{ℕ}
 use mathlib.Core.List.{List, [], _∷_, _++_, map, flatten}
 use lib.ListN.{replicate}
@@ -37,11 +37,6 @@ lentTree = replicate 4096 0
 unfoldable pub refusedLine : Refusal → List ℕ
 refusedLine refusal = numbered "refused" (rowOf refusal .number ∷ rowOf refusal .place ∷ [])
 
--- the refusal as the only line, or else these lines
-abbrev pub unlessRefused : Check → List ℕ → List ℕ
-unlessRefused (check.Refused refusal) lines = refusedLine refusal
-unlessRefused check.Passed lines = lines
-
 module _ (G : Grammar) (line : List ℕ) where
   -- rounds R facts F
   unfoldable pub roundsLine : List ℕ
@@ -63,30 +58,40 @@ marksLine G line = marksOf (marks G line)
 unfoldable pub nodeLine : Node → List ℕ
 nodeLine x = numbered "node" (x .kind ∷ x .number ∷ x .start ∷ x .end ∷ [])
 
+-- a refusal's line in place of these, or else these
+abbrev pub unlessRefused : Check → List (List ℕ) → List (List ℕ)
+unlessRefused (check.Refused refusal) these = refusedLine refusal ∷ []
+unlessRefused check.Passed these = these
+
 module _ (g line : List ℕ) where
-  -- the nodes shown for a question's fact
-  abbrev pub nodes : Span → List Node
-  nodes q = shown (grammarGiven g) line (q .category) (q .start) (q .end)
-
-  -- tree A i j, and then the nodes or the refusal
+  -- tree A i j, and a line for each node shown for this fact, or the refusal in place of the nodes
   unfoldable pub treeLines : Span → List ℕ
-  treeLines q = numbered "tree" (spanNumbers q) ++ unlessRefused (reported (treeChecks g line (q .category) (q .start) (q .end) lentWords lentDepths lentTree)) (flatten (map nodeLine (nodes q)))
+  treeLines q =
+      numbered "tree" (spanNumbers q)
+      ++ flatten
+      (unlessRefused (reported (treeChecks g line (q .category) (q .start) (q .end) lentWords lentDepths lentTree))
+      (map nodeLine (shown (grammarGiven g) line (q .category) (q .start) (q .end))))
 
-  -- rounds and facts, each fact, the marks, each question
-  unfoldable pub answerLines : List Span → List ℕ
-  answerLines questions =
-      roundsLine (grammarGiven g) line ++ (factLines (grammarGiven g) line
-      ++ (marksLine (grammarGiven g) line
-      ++ flatten (map treeLines questions)))
+  -- the piece of rounds and facts with each fact, that of the marks, and one for each question
+  unfoldable pub answerPieces : List Span → List (List ℕ)
+  answerPieces questions =
+      (roundsLine (grammarGiven g) line ++ factLines (grammarGiven g) line)
+      ∷ marksLine (grammarGiven g) line
+      ∷ map treeLines questions
 
-  -- the chart's refusal as the only line, or else the answers
-  unfoldable pub chartPrinted : List Span → List ℕ
-  chartPrinted questions = unlessRefused (reported (chartChecks g line lentWords lentDepths)) (answerLines questions)
+  -- the chart's refusal as the only piece, or else the answers
+  unfoldable pub chartPieces : List Span → List (List ℕ)
+  chartPieces questions = unlessRefused (reported (chartChecks g line lentWords lentDepths)) (answerPieces questions)
 
--- the job's refusal as the only line, or else what its chart leads to
-abbrev pub jobPrinted : List ℕ → JobReading → List ℕ
-jobPrinted input (Refused refusal) = refusedLine refusal
-jobPrinted input (Read job) = chartPrinted (grammarPart input job) (linePart input job) (questionsPart input job)
+-- the job's refusal as the only piece, or else what its chart leads to
+abbrev pub jobPieces : List ℕ → JobReading → List (List ℕ)
+jobPieces input (Refused refusal) = refusedLine refusal ∷ []
+jobPieces input (Read job) = chartPieces (grammarPart input job) (linePart input job) (questionsPart input job)
 
+-- what is printed, piece by piece
+unfoldable pub pieces : List ℕ → List (List ℕ)
+pieces input = jobPieces input (jobOf input)
+
+-- what is printed, the pieces put together
 unfoldable pub printed : List ℕ → List ℕ
-printed input = jobPrinted input (jobOf input)
+printed input = flatten (pieces input)

@@ -4,7 +4,7 @@ ghost use Prim.Native.Nat.{_+_, _≤_};
 ghost use lib.ListN.{length};
 ghost use Rattle.grammar.specs.declared.reading.Sections.{Sections};
 ghost use Rattle.grammar.specs.Given.{grammarGiven};
-ghost use Rattle.lines.specs.Decimal.{Written};
+ghost use Rattle.lines.specs.Stored.{Stored};
 ghost use Rattle.report.specs.Checked.{JobPasses};
 ghost use Rattle.report.specs.Printed.{refusedLine, roundsLine, factLines, marksLine, treeLines};
 use chart::ChartAnswer;
@@ -21,7 +21,7 @@ use tree::TreeAnswer;
 // Writes a refusal's line.
 pub fn refused_line(out: &mut [u8], at: usize, refusal: Refusal) -> usize
     requires { ⌜ at + 64 ≤ length (now out) ⌝ }
-    ensures { λ r. ⌜ Written (now (out .entry)) at (refusedLine refusal) (now (out .exit)) r × (r ≤ at + 64) ⌝ }
+    ensures { λ r. ⌜ Stored (now (out .entry)) at (refusedLine refusal) (now (out .exit)) r × (r ≤ at + 64) ⌝ }
 {
     let row = row_of(refusal);
     let numbers = [row.number as usize, row.place];
@@ -31,7 +31,7 @@ pub fn refused_line(out: &mut [u8], at: usize, refusal: Refusal) -> usize
 // Writes rounds and facts, and a line for each fact.
 pub fn write_chart(g: &[u8], s: Sections, line: &[u8], out: &mut [u8]) -> usize
     requires { ⌜ JobPasses (now g) (now line) s × (475200 ≤ length (now out)) ⌝ }
-    ensures { λ r. ⌜ Written (now (out .entry)) 0 (roundsLine (grammarGiven (now (g .entry))) (now (line .entry)) ++ factLines (grammarGiven (now (g .entry))) (now (line .entry))) (now (out .exit)) r ⌝ }
+    ensures { λ r. ⌜ Stored (now (out .entry)) 0 (roundsLine (grammarGiven (now (g .entry))) (now (line .entry)) ++ factLines (grammarGiven (now (g .entry))) (now (line .entry))) (now (out .exit)) r ⌝ }
 {
     let mut words = [0; 512];
     let mut depths = [0; 16384];
@@ -48,7 +48,7 @@ pub fn write_chart(g: &[u8], s: Sections, line: &[u8], out: &mut [u8]) -> usize
 // Writes the line of the marks.
 pub fn write_marked(g: &[u8], line: &[u8], out: &mut [u8]) -> usize
     requires { ⌜ ((s : Sections) × JobPasses (now g) (now line) s) × (475200 ≤ length (now out)) ⌝ }
-    ensures { λ r. ⌜ Written (now (out .entry)) 0 (marksLine (grammarGiven (now (g .entry))) (now (line .entry))) (now (out .exit)) r ⌝ }
+    ensures { λ r. ⌜ Stored (now (out .entry)) 0 (marksLine (grammarGiven (now (g .entry))) (now (line .entry))) (now (out .exit)) r ⌝ }
 {
     let mut words = [0; 512];
     let mut depths = [0; 16384];
@@ -60,7 +60,7 @@ pub fn write_marked(g: &[u8], line: &[u8], out: &mut [u8]) -> usize
 // Writes a question's line, and its nodes or the refusal.
 pub fn write_tree(g: &[u8], line: &[u8], category: u8, start: u8, end: u8, out: &mut [u8]) -> usize
     requires { ⌜ 475200 ≤ length (now out) ⌝ }
-    ensures { λ r. ⌜ Written (now (out .entry)) 0 (treeLines (now (g .entry)) (now (line .entry)) (record { category = category; start = start; end = end })) (now (out .exit)) r ⌝ }
+    ensures { λ r. ⌜ Stored (now (out .entry)) 0 (treeLines (now (g .entry)) (now (line .entry)) (record { category = category; start = start; end = end })) (now (out .exit)) r ⌝ }
 {
     let mut words = [0; 512];
     let mut depths = [0; 16384];

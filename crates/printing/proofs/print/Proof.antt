@@ -7,7 +7,7 @@ use native.Mathlib.Numerals.{add-one}
 use lib.ListN.{length}
 use lib.Seq.{length-take-le}
 use borrow.Author.Tests.{ltb-true}
-use Rattle.report.specs.Pieces.{pieces}
+use Rattle.report.specs.Printed.{pieces}
 use Rattle.report.proofs.PieceLaws.{pieces-some, pieces-few, yielded-within}
 use Rattle.printing.proofs.print.Statement.{statement}
 use Rattle.printing.proofs.print.Tie as tie

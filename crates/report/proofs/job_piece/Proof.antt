@@ -1,7 +1,7 @@
 -- `report::job_piece` meets its contract.
 use borrow.Author.Needs.{needs}
 use mathlib.Core.Path.{sym, _∙_}
-use Rattle.report.specs.Pieces.{chartPieces}
+use Rattle.report.specs.Printed.{chartPieces}
 use Rattle.chart.proofs.CheckLaws.{checked-accepted}
 use Rattle.report.proofs.CheckLaws.{job-refused, job-passed}
 use Rattle.report.proofs.job_piece.Statement.{statement}

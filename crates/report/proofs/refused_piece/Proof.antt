@@ -7,7 +7,7 @@ use mathlib.Core.Bool.{false}
 use mathlib.Core.List.{[], _∷_}
 use borrow.Author.Tests.{le-ltb}
 use Rattle.report.specs.Printed.{refusedLine}
-use Rattle.report.proofs.PieceLaws.{piece-written, piece-none, none-after-one}
+use Rattle.report.proofs.PieceLaws.{piece-stored, piece-none, none-after-one}
 use Rattle.report.proofs.refused_piece.Statement.{statement}
 use Rattle.report.proofs.refused_piece.Tie as tie
 
@@ -26,7 +26,7 @@ same-length c = search needs
 returns-2 : tie.Need-returns-2
 returns-2 c =
     let e : c .before .before .before .before .before .before .args .number ≡ 0 = omega arith in
-    rw e (piece-written (refusedLine (c .before .before .before .before .before .before .args .refusal) ∷ []) 0 false refl (refusedLine (c .before .before .before .before .before .before .args .refusal)) refl (c .before .before .refused-line .ensures .0))
+    rw e (piece-stored (refusedLine (c .before .before .before .before .before .before .args .refusal) ∷ []) 0 false refl (refusedLine (c .before .before .before .before .before .before .args .refusal)) refl (c .before .before .refused-line .ensures .0))
 
 pub refused-piece-spec : {M : Type 1} → statement M
 refused-piece-spec = tie.close (tie.spec returns refused-line-requires same-length returns-2)

@@ -3,7 +3,7 @@ use borrow.Author.Needs.{needs}
 use native.Mathlib.Omega.{arith}
 use Prim.Native.Nat.{_+_, _-_}
 use mathlib.Core.Path.{_≡_, sym, _∙_}
-use Rattle.report.specs.Pieces.{pieces}
+use Rattle.report.specs.Printed.{pieces}
 use Rattle.report.proofs.JobLaws.{job-read}
 use Rattle.report.proofs.PieceLaws.{questions-read}
 use Rattle.report.proofs.write_piece.Statement.{statement}

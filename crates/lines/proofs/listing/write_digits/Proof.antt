@@ -6,19 +6,20 @@ use mathlib.Core.List.{map}
 use native.Mathlib.Nat.{add-assoc, add-zero}
 use native.Mathlib.Omega.{arith}
 use lib.ListN.{take}
-use Rattle.lines.specs.Decimal.{digit, Written}
-use Rattle.lines.proofs.WriteLaws.{written-none, written-more, written-long, digits-more, digits-long}
+use Rattle.lines.specs.Decimal.{digitCode}
+use Rattle.lines.specs.Stored.{Stored}
+use Rattle.lines.proofs.WriteLaws.{stored-none, stored-more, stored-long, digits-more, digits-long}
 use Rattle.lines.proofs.listing.write_digits.Statement.{statement}
 use Rattle.lines.proofs.listing.write_digits.Tie as tie
 
 abbrev Inv-loop : tie.InvT-loop
-Inv-loop out₀ at marks n t₀ out t = (t ≤ n) × Written out₀ at (map digit (take t marks)) out (at + t)
+Inv-loop out₀ at marks n t₀ out t = (t ≤ n) × Stored out₀ at (map digitCode (take t marks)) out (at + t)
 
 abbrev μ-loop : tie.MeasureT-loop
 μ-loop out₀ at marks n t₀ out t = n - t
 
 loop-holds : tie.Need-loop-holds Inv-loop μ-loop
-loop-holds c = (omega arith, rw add-zero (written-none _ _))
+loop-holds c = (omega arith, rw add-zero (stored-none _ _))
 
 shared-slice-read-out : tie.Need-shared-slice-read-out Inv-loop μ-loop
 shared-slice-read-out c = omega (arith, c .before .before .before .pre .0)
@@ -33,7 +34,7 @@ slice-write-out : tie.Need-slice-write-out Inv-loop μ-loop
 slice-write-out c =
     let l = c .before .before .loop in
     let pre = c .before .before .before .pre in
-    let long = written-long (omega (arith, digits-long (c .before .before .before .args .marks .now) (l .t) (omega (arith, l .inv .0, pre .0)), l .inv .0, pre .1)) (l .inv .1) in
+    let long = stored-long (omega (arith, digits-long (c .before .before .before .args .marks .now) (l .t) (omega (arith, l .inv .0, pre .0)), l .inv .0, pre .1)) (l .inv .1) in
     omega (arith, long, pre .1, c .before .loop-test .taken)
 
 add-t : tie.Need-add-t Inv-loop μ-loop
@@ -48,7 +49,7 @@ loop-again c =
     let pre = c .before .before .before .pre in
     let marks = c .before .before .before .args .marks .now in
     let part = digits-long marks (l .t) (omega (arith, l .inv .0, pre .0)) in
-    (omega arith, rw (digits-more marks (l .t) (omega (arith, pre .0, c .before .loop-test .taken)), ← add-assoc) (written-more _ (omega (arith, part, pre .1, c .before .loop-test .taken)) (l .inv .1)))
+    (omega arith, rw (digits-more marks (l .t) (omega (arith, pre .0, c .before .loop-test .taken)), ← add-assoc) (stored-more _ (omega (arith, part, pre .1, c .before .loop-test .taken)) (l .inv .1)))
 
 add-result : tie.Need-add-result Inv-loop μ-loop
 add-result c = search needs
@@ -57,7 +58,7 @@ same-length : tie.Need-same-length Inv-loop μ-loop
 same-length c =
     let l = c .before .loop in
     let pre = c .before .before .pre in
-    written-long (omega (arith, digits-long (c .before .before .args .marks .now) (l .t) (omega (arith, l .inv .0, pre .0)), l .inv .0, pre .1)) (l .inv .1)
+    stored-long (omega (arith, digits-long (c .before .before .args .marks .now) (l .t) (omega (arith, l .inv .0, pre .0)), l .inv .0, pre .1)) (l .inv .1)
 
 returns : tie.Need-returns Inv-loop μ-loop
 returns c =

@@ -2,13 +2,13 @@
 use borrow.Author.Needs.{needs}
 use native.Mathlib.Omega.{arith}
 use Rattle.lines.specs.Lines.{text}
-use Rattle.lines.proofs.WriteLaws.{written-none}
+use Rattle.lines.proofs.WriteLaws.{stored-none}
 use Rattle.lines.proofs.LineLaws.{four-few, depth-line}
 use Rattle.lines.proofs.listing.write_fact.Statement.{statement}
 use Rattle.lines.proofs.listing.write_fact.Tie as tie
 
 returns : tie.Need-returns
-returns c = rw (c .if1 .taken) (written-none _ _)
+returns c = rw (c .if1 .taken) (stored-none _ _)
 
 slice-aggregate-write-line : tie.Need-slice-aggregate-write-line
 slice-aggregate-write-line c = search needs

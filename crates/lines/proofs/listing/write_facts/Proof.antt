@@ -5,7 +5,7 @@ use Prim.Native.Nat.{_-_, _/_, _≤_, _<_}
 use mathlib.Core.Path.{_≡_, sym}
 use native.Mathlib.Nat.{div-le-self, mod-le}
 use Rattle.derivation.specs.Listing.{gathered}
-use Rattle.lines.specs.Decimal.{Written}
+use Rattle.lines.specs.Stored.{Stored}
 use Rattle.lines.specs.Listing.{factLineAt}
 use Rattle.lines.proofs.WriteLaws.{gather-none, gather-long, gather-few, gather-room, gather-more}
 use Rattle.lines.proofs.LineLaws.{fact-few}
@@ -13,7 +13,7 @@ use Rattle.lines.proofs.listing.write_facts.Statement.{statement}
 use Rattle.lines.proofs.listing.write_facts.Tie as tie
 
 abbrev Inv-loop : tie.InvT-loop
-Inv-loop out₀ at depths numbers width place₀ q₀ out place q = (q ≤ numbers) × Written out₀ at (gathered q (factLineAt depths width)) out place
+Inv-loop out₀ at depths numbers width place₀ q₀ out place q = (q ≤ numbers) × Stored out₀ at (gathered q (factLineAt depths width)) out place
 
 abbrev μ-loop : tie.MeasureT-loop
 μ-loop out₀ at depths numbers width place₀ q₀ out place q = numbers - q

@@ -5,7 +5,7 @@ use Prim.Native.Nat.{ℕ, _+_, _-_, _*_, _≤_, _<_}
 use mathlib.Core.Path.{_≡_, sym}
 use lib.ListN.{getD}
 use Rattle.derivation.specs.Listing.{gathered}
-use Rattle.lines.specs.Decimal.{Written}
+use Rattle.lines.specs.Stored.{Stored}
 use Rattle.lines.specs.Lines.{text, lineOf, numbered}
 use Rattle.lines.specs.Listing.{nodeLineAt}
 use Rattle.lines.proofs.WriteLaws.{gather-none, gather-long, gather-few, gather-room, gather-more}
@@ -14,7 +14,7 @@ use Rattle.lines.proofs.listing.write_nodes.Statement.{statement}
 use Rattle.lines.proofs.listing.write_nodes.Tie as tie
 
 abbrev Inv-loop : tie.InvT-loop
-Inv-loop out₀ at nodes count place₀ k₀ t9 out place k = (k ≤ count) × Written out₀ at (gathered k (nodeLineAt nodes)) out place
+Inv-loop out₀ at nodes count place₀ k₀ t9 out place k = (k ≤ count) × Stored out₀ at (gathered k (nodeLineAt nodes)) out place
 
 abbrev μ-loop : tie.MeasureT-loop
 μ-loop out₀ at nodes count place₀ k₀ t9 out place k = count - k

@@ -1,6 +1,6 @@
 -- `lines::writing::write_byte` meets its contract.
 use native.Mathlib.Omega.{arith}
-use Rattle.lines.proofs.WriteLaws.{written-byte}
+use Rattle.lines.proofs.WriteLaws.{stored-byte}
 use borrow.Author.Needs.{needs}
 use Rattle.lines.proofs.writing.write_byte.Statement.{statement}
 use Rattle.lines.proofs.writing.write_byte.Tie as tie
@@ -15,7 +15,7 @@ same-length : tie.Need-same-length
 same-length c = search needs
 
 returns : tie.Need-returns
-returns c = written-byte _ _ _ (omega (arith, c .pre))
+returns c = stored-byte _ _ _ (omega (arith, c .pre))
 
 pub write-byte-spec : {M : Type 1} → statement M
 write-byte-spec = tie.close (tie.spec slice-write-out add-result same-length returns)

@@ -5,7 +5,7 @@ use mathlib.Core.List.{[], _∷_, map}
 use lib.ListN.{length-append}
 use Rattle.lines.specs.Decimal.{decimal}
 use Rattle.lines.specs.Lines.{spaced}
-use Rattle.lines.proofs.WriteLaws.{written-then, written-long}
+use Rattle.lines.proofs.WriteLaws.{stored-then, stored-long}
 use Rattle.lines.proofs.LineLaws.{line-long}
 use Rattle.lines.proofs.writing.write_line.Statement.{statement}
 use Rattle.lines.proofs.writing.write_line.Tie as tie
@@ -20,7 +20,7 @@ write-numbers-requires c κs =
     let start = c .before .before .before .before .before .before .before .before in
     let all = line-long (start .args .word .now) (spaced (map decimal (start .args .numbers .now))) in
     let word = c .before .before .before .write-bytes .ensures in
-    let long = written-long (omega (arith, all, start .pre .1)) word in
+    let long = stored-long (omega (arith, all, start .pre .1)) word in
     (start .pre .0, omega (arith, all, long, word .after, start .pre .1))
 
 write-byte-requires : tie.Need-write-byte-requires
@@ -28,9 +28,9 @@ write-byte-requires c κs =
     let start = c .before .before .before .before .before .before .before .before .before .before .before .before in
     let all = line-long (start .args .word .now) (spaced (map decimal (start .args .numbers .now))) in
     let word = c .before .before .before .before .before .before .before .write-bytes .ensures in
-    let long = written-long (omega (arith, all, start .pre .1)) word in
+    let long = stored-long (omega (arith, all, start .pre .1)) word in
     let numbers = c .before .before .before .write-numbers .ensures in
-    let longer = written-long (omega (arith, all, long, word .after, start .pre .1)) numbers in
+    let longer = stored-long (omega (arith, all, long, word .after, start .pre .1)) numbers in
     omega (arith, all, long, longer, word .after, numbers .after, start .pre .1)
 
 same-length : tie.Need-same-length
@@ -41,9 +41,9 @@ returns c =
     let start = c .before .before .before .before .before .before .before .before .before .before .before .before .before .before .before in
     let all = line-long (start .args .word .now) (spaced (map decimal (start .args .numbers .now))) in
     let word = c .before .before .before .before .before .before .before .before .before .before .write-bytes .ensures in
-    let long = written-long (omega (arith, all, start .pre .1)) word in
+    let long = stored-long (omega (arith, all, start .pre .1)) word in
     let numbers = c .before .before .before .before .before .before .write-numbers .ensures in
-    written-then (omega (arith, length-append (spaced (map decimal (start .args .numbers .now))) (10 ∷ []), all, start .pre .1)) word (written-then (omega (arith, all, long, word .after, start .pre .1)) numbers (c .before .before .write-byte .ensures))
+    stored-then (omega (arith, length-append (spaced (map decimal (start .args .numbers .now))) (10 ∷ []), all, start .pre .1)) word (stored-then (omega (arith, all, long, word .after, start .pre .1)) numbers (c .before .before .write-byte .ensures))
 
 pub write-line-spec : {M : Type 1} → statement M
 write-line-spec =

@@ -9,7 +9,7 @@ use Rattle.derivation.specs.RoundsOf.{roundsOf}
 use Rattle.derivation.specs.FactCount.{factCount}
 use Rattle.grammar.specs.Given.{grammarGiven}
 use Rattle.chart.specs.declared.ChartAnswer.the-variants as chart
-use Rattle.lines.proofs.WriteLaws.{written-long, written-then}
+use Rattle.lines.proofs.WriteLaws.{stored-long, stored-then}
 use Rattle.lines.proofs.LineLaws.{rounds-few}
 use Rattle.report.specs.Printed.{roundsLine}
 use Rattle.chart.proofs.CheckLaws.{checked-accepted, memory-is}
@@ -65,7 +65,7 @@ write-facts-requires c κs =
     let rounds = c .before .before .before .before .before .write-rounds .ensures in
     let fits = c .before .before .before .before .before .before .before .known-told .given in
     let few = rounds-few (c .before .before .before .before .before .before .before .before .rounds .given .0 .0) (c .before .before .before .before .before .before .before .before .rounds .given .0 .1 .0) (omega (arith, fits)) (omega (arith, fits)) in
-    let long = written-long (omega (arith, few, start .pre .1)) rounds in
+    let long = stored-long (omega (arith, few, start .pre .1)) rounds in
     (omega arith, omega (arith, sizes .1, filled .1 .depths-long, length-replicate {A = ℕ} 16384 0), omega (arith, sizes .1), omega (arith, few, long, rounds .after, sizes .1, start .pre .1))
 
 never : {rounds facts : ℕ} {refusal : Refusal} → chart.Filled rounds facts ≡ chart.Refused refusal → ⊥
@@ -96,7 +96,7 @@ returns-2 c =
     let few = rounds-few (c .before .before .before .before .before .before .before .before .before .before .before .rounds .given .0 .0) (c .before .before .before .before .before .before .before .before .before .before .before .rounds .given .0 .1 .0) (omega (arith, fits)) (omega (arith, fits)) in
     let facts = c .before .before .write-facts .ensures in
     let lines = rw (ready-categories passes) at (facts-listed _ _ (ready-proper passes) (filled .1)) in
-    rw (e₁, e₂, sym lines) (written-then (omega (arith, few, rounds .after, facts .0 .after, facts .1, sizes .1, start .pre .1)) rounds (facts .0))
+    rw (e₁, e₂, sym lines) (stored-then (omega (arith, few, rounds .after, facts .0 .after, facts .1, sizes .1, start .pre .1)) rounds (facts .0))
 
 pub write-chart-spec : {M : Type 1} → statement M
 write-chart-spec =

@@ -3,9 +3,10 @@ use borrow.Author.Needs.{needs}
 use native.Mathlib.Omega.{arith}
 use Prim.Native.Nat.{ℕ}
 use mathlib.Core.Path.{sym}
+use mathlib.Core.List.{append-nil, flatten}
 use lib.ListN.{length-replicate}
 use Rattle.lines.specs.Lines.{text, lineOf, numbered}
-use Rattle.lines.proofs.WriteLaws.{written-long, written-then}
+use Rattle.lines.proofs.WriteLaws.{stored-long, stored-then}
 use Rattle.lines.proofs.LineLaws.{three-few}
 use Rattle.report.specs.Printed.{lentWords, lentDepths, lentTree, treeLines}
 use Rattle.report.proofs.NodeLaws.{nodes-printed}
@@ -45,7 +46,7 @@ refused-line-requires c κs =
     let start = c .before .before .before .before .before .before .before .before .before .before .before .before .before .before .before .before .before .before .before .before in
     let few = three-few 2 (start .args .category) (start .args .start) (start .args .end) (omega arith) (omega arith) (omega arith) in
     let line = c .before .before .before .before .before .before .before .before .before .before .before .before .before .write-line .ensures in
-    let long = written-long (omega (arith, few, start .pre)) line in
+    let long = stored-long (omega (arith, few, start .pre)) line in
     omega (arith, few, long, line .after, start .pre)
 
 enum-known-count : tie.Need-enum-known-count
@@ -59,7 +60,7 @@ write-nodes-requires c κs =
     let start = c .before .before .before .before .before .before .before .before .before .before .before .before .before .before .before .before .before .before .before .before .before in
     let few = three-few 2 (start .args .category) (start .args .start) (start .args .end) (omega arith) (omega arith) (omega arith) in
     let line = c .before .before .before .before .before .before .before .before .before .before .before .before .before .before .write-line .ensures in
-    let long = written-long (omega (arith, few, start .pre)) line in
+    let long = stored-long (omega (arith, few, start .pre)) line in
     let shows = tree-shown _ _ _ _ _ _ _ _ (rw (c .before .before .before .count .given .1) at (c .before .before .before .before .before .before .before .before .tree .ensures)) in
     let room = length-replicate {A = ℕ} 4096 0 in
     (omega (arith, shows .room, shows .long), omega (arith, few, long, line .after, start .pre, shows .room, room))
@@ -68,20 +69,20 @@ same-length : tie.Need-same-length
 same-length c = search needs
 
 returns : tie.Need-returns
-unfolding treeLines lentWords lentDepths lentTree numbered lineOf text
+unfolding treeLines flatten lentWords lentDepths lentTree numbered lineOf text
 returns c =
     let start = c .before .before .before .before .before .before .before .before .before .before .before .before .before .before .before .before .before .before .before .before .before .before .before in
     let few = three-few 2 (start .args .category) (start .args .start) (start .args .end) (omega arith) (omega arith) (omega arith) in
     let line = c .before .before .before .before .before .before .before .before .before .before .before .before .before .before .before .before .write-line .ensures in
     let refusal = c .before .before .refused-line .ensures in
     let refused = tree-refused _ _ _ _ _ _ _ _ (rw (c .before .before .before .before .before .refusal .given .1) at (c .before .before .before .before .before .before .before .before .before .before .tree .ensures)) in
-    rw refused (written-then (omega (arith, few, line .after, refusal .0 .after, refusal .1, start .pre)) line (refusal .0))
+    rw (refused, append-nil) (stored-then (omega (arith, few, line .after, refusal .0 .after, refusal .1, start .pre)) line (refusal .0))
 
 same-length-2 : tie.Need-same-length-2
 same-length-2 c = search needs
 
 returns-2 : tie.Need-returns-2
-unfolding treeLines lentWords lentDepths lentTree numbered lineOf text
+unfolding treeLines flatten lentWords lentDepths lentTree numbered lineOf text
 returns-2 c =
     let start = c .before .before .before .before .before .before .before .before .before .before .before .before .before .before .before .before .before .before .before .before .before .before .before .before in
     let few = three-few 2 (start .args .category) (start .args .start) (start .args .end) (omega arith) (omega arith) (omega arith) in
@@ -90,7 +91,7 @@ returns-2 c =
     let shows = tree-shown _ _ _ _ _ _ _ _ (rw (c .before .before .before .before .before .before .count .given .1) at (c .before .before .before .before .before .before .before .before .before .before .before .tree .ensures)) in
     let room = length-replicate {A = ℕ} 4096 0 in
     let printed = nodes-printed _ _ (shows .nodes) (shows .begins) in
-    rw (shows .passed, sym printed) (written-then (omega (arith, few, line .after, nodes .0 .after, nodes .1, start .pre, shows .room, room)) line (nodes .0))
+    rw (shows .passed, sym printed) (stored-then (omega (arith, few, line .after, nodes .0 .after, nodes .1, start .pre, shows .room, room)) line (nodes .0))
 
 pub write-tree-spec : {M : Type 1} → statement M
 write-tree-spec =
