@@ -9,9 +9,10 @@ const MOST_NODES: usize = 2500;
 /// A forest of more records is asked for with too little room only.
 const MOST_RECORDS: usize = 60_000;
 
-/// A category, a start and an end; a question takes the first of them, as many as its `Numbers` count.
+/// A category, a start and an end; a question takes as many of them as its `Numbers` say, from the first on.
 pub type Span = [usize; 3];
 
+/// Which numbers a question takes: none, a start of a category, or a span; the value is how many.
 #[derive(Clone, Copy, Debug, PartialEq, Eq)]
 pub enum Numbers {
     None = 0,
@@ -19,7 +20,7 @@ pub enum Numbers {
     Span = 3,
 }
 
-/// What is lent beside the work memory.
+/// What is lent beside the work memory: nothing, bytes (marks, or a tree's), or a forest's records.
 #[derive(Clone, Copy, Debug, PartialEq, Eq)]
 pub enum Output {
     None,
