@@ -1,29 +1,26 @@
 //! One call of the library, compared with the reference: the answer, the place of a refusal, and all lent memory.
 
 use crate::guarded::{Content, Guarded};
-use crate::questions::{self, Answer, Lent, Question};
 use crate::random::Random;
 use crate::reference::Reference;
+use crate::table::{Lent, Output, Question, Span};
 use crate::tally::Tally;
 use crate::tree::Trees;
 use berylskip::{Branch, Refused};
 
-/// How much memory is lent to a call.
-#[derive(Clone, Copy, Debug, Default, PartialEq, Eq)]
+/// How much memory is lent to a call; a question without an output is lent none.
+#[derive(Clone, Copy, Debug, PartialEq, Eq)]
 pub struct Rooms {
     pub words: usize,
     pub depths: usize,
-    pub marks: usize,
-    pub nodes: usize,
-    pub records: usize,
+    pub output: usize,
 }
 
 #[derive(Clone)]
 struct Memory {
     words: Guarded<u64>,
     depths: Guarded<u16>,
-    marks: Guarded<u8>,
-    nodes: Guarded<u8>,
+    bytes: Guarded<u8>,
     records: Guarded<Branch>,
 }
 
@@ -32,8 +29,7 @@ impl Memory {
         Lent {
             words: self.words.lent(),
             depths: self.depths.lent(),
-            marks: self.marks.lent(),
-            nodes: self.nodes.lent(),
+            bytes: self.bytes.lent(),
             records: self.records.lent(),
         }
     }
@@ -41,8 +37,7 @@ impl Memory {
     fn difference(&self, expected: &Memory) -> Option<String> {
         (self.words.difference(&expected.words, "words"))
             .or_else(|| self.depths.difference(&expected.depths, "depths"))
-            .or_else(|| self.marks.difference(&expected.marks, "marks"))
-            .or_else(|| self.nodes.difference(&expected.nodes, "nodes"))
+            .or_else(|| self.bytes.difference(&expected.bytes, "bytes"))
             .or_else(|| self.records.difference(&expected.records, "records"))
     }
 }
@@ -51,8 +46,8 @@ impl Memory {
 pub struct Asker<'a> {
     grammar: Guarded<u8>,
     line: Guarded<u8>,
-    pub judged: &'a Result<Reference, Refused>,
-    pub trees: Option<Trees<'a>>,
+    /// The reference's facts and trees, or why it refuses the grammar or the line.
+    pub judged: Result<Trees<'a>, Refused>,
     left: Option<Memory>,
     pub random: Random,
     pub tally: &'a mut Tally,
@@ -69,8 +64,7 @@ impl<'a> Asker<'a> {
         Asker {
             grammar: Guarded::holding(&mut random, grammar),
             line: Guarded::holding(&mut random, line),
-            judged,
-            trees: judged.as_ref().ok().map(Trees::new),
+            judged: judged.as_ref().map(Trees::new).map_err(|refused| *refused),
             left: None,
             random,
             tally,
@@ -78,18 +72,15 @@ impl<'a> Asker<'a> {
     }
 
     /// Asks the library and the reference; a difference is told in words.
-    pub fn ask(&mut self, question: Question, rooms: Rooms) -> Result<(), String> {
-        let mut actual = self.memory(rooms);
+    pub fn ask(&mut self, question: &Question, span: Span, rooms: Rooms) -> Result<(), String> {
+        let mut actual = self.memory(question.output, rooms);
         let mut expected = actual.clone();
         let (grammar, line) = (self.grammar.clone(), self.line.clone());
-        let should = match self.judged {
+        let should = match &mut self.judged {
             Err(refused) => Err(*refused),
-            Ok(reference) => {
-                let trees = self.trees.as_mut().expect("an accepted line has trees");
-                questions::outcome(reference, trees, question, expected.lent())
-            }
+            Ok(trees) => question.outcome(trees, span, expected.lent()),
         };
-        let is = ask_library(question, grammar.read(), line.read(), actual.lent());
+        let is = (question.library)(grammar.read(), line.read(), span, actual.lent());
         self.tally.add_call(question, should.err());
         let difference = if is != should {
             Some(format!("the outcome is {is:?}, expected {should:?}"))
@@ -100,7 +91,13 @@ impl<'a> Asker<'a> {
                 .or_else(|| line.difference(&self.line, "line"))
         };
         match difference {
-            Some(difference) => Err(format!("{question:?}, lent {rooms:?}: {difference}")),
+            Some(difference) => {
+                let numbers = &span[..question.numbers as usize];
+                Err(format!(
+                    "{} {numbers:?}, lent {rooms:?}: {difference}",
+                    question.name
+                ))
+            }
             None => {
                 self.left = Some(actual);
                 Ok(())
@@ -109,7 +106,7 @@ impl<'a> Asker<'a> {
     }
 
     /// Memory with arbitrary contents, or with what the call before left in it.
-    fn memory(&mut self, rooms: Rooms) -> Memory {
+    fn memory(&mut self, output: Output, rooms: Rooms) -> Memory {
         let left = if self.random.chance(25) {
             self.left.take()
         } else {
@@ -126,12 +123,16 @@ impl<'a> Asker<'a> {
                 Guarded::arbitrary(random, rooms.depths),
             ),
         };
+        let (bytes, records) = match output {
+            Output::None => (0, 0),
+            Output::Bytes => (rooms.output, 0),
+            Output::Records => (0, rooms.output),
+        };
         Memory {
             words,
             depths,
-            marks: Guarded::arbitrary(random, rooms.marks),
-            nodes: Guarded::arbitrary(random, rooms.nodes),
-            records: Guarded::arbitrary(random, rooms.records),
+            bytes: Guarded::arbitrary(random, bytes),
+            records: Guarded::arbitrary(random, records),
         }
     }
 }
@@ -141,37 +142,4 @@ fn refit<T: Content>(random: &mut Random, left: &Guarded<T>, length: usize) -> G
     let mut values = left.read().to_vec();
     values.resize(length, T::from_word(random.word()));
     Guarded::holding(random, &values)
-}
-
-fn ask_library(
-    question: Question,
-    grammar: &[u8],
-    line: &[u8],
-    lent: Lent,
-) -> Result<Answer, Refused> {
-    let Lent {
-        words,
-        depths,
-        marks,
-        nodes,
-        records,
-    } = lent;
-    match question {
-        Question::Chart => berylskip::chart(grammar, line, words, depths).map(Answer::Chart),
-        Question::Ends { category, start } => {
-            berylskip::ends(grammar, line, category, start, words, depths).map(Answer::Ends)
-        }
-        Question::Marks => {
-            berylskip::marks(grammar, line, words, depths, marks).map(Answer::Secret)
-        }
-        Question::Tree {
-            category,
-            start,
-            end,
-        } => berylskip::tree(grammar, line, category, start, end, words, depths, nodes)
-            .map(Answer::Nodes),
-        Question::Forest => {
-            berylskip::forest(grammar, line, words, depths, records).map(Answer::Records)
-        }
-    }
 }

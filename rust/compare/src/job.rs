@@ -66,10 +66,7 @@ pub fn kept(folder: &Path) -> Result<Vec<Kept>, String> {
     let mut files: Vec<_> = entries
         .filter_map(|entry| entry.ok().map(|entry| entry.path()))
         .collect();
-    files.retain(|file| {
-        file.extension()
-            .map_or(false, |extension| extension == "txt")
-    });
+    files.retain(|file| file.extension() == Some("txt".as_ref()));
     files.sort();
     let mut cases: Vec<Kept> = Vec::new();
     for file in files {

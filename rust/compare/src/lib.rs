@@ -15,10 +15,11 @@ pub mod jobs; // random jobs for the program
 pub mod machine; // what runs the program
 pub mod plan; // which calls a case makes, with which memory
 pub mod program; // runs the program `spans`
-pub mod questions; // the whole outcome of each question
+pub mod questions; // what the document says of each question
 pub mod random; // random numbers from a seed
 pub mod reference; // every fact and its depth, by an agenda
 pub mod spans; // what the program prints for a job
+pub mod table; // a row for each question
 pub mod tally; // how many calls ended in which way
 pub mod tree; // the tree that is shown
 pub mod watch; // which case it was when the library does not come back

@@ -19,7 +19,7 @@ use std::time::{SystemTime, UNIX_EPOCH};
 const USUAL_CASES: u64 = 30_000;
 const LONG_CASES: u64 = 1_000_000;
 const USUAL_SPANS_CASES: u64 = 1_500;
-/// From so many cases on, each refusal of the library must have been met.
+/// From so many cases on, an answer to each question and each refusal of the library must have been met.
 const CASES_THAT_MEET_ALL: u64 = 10_000;
 const PROGRESS: u64 = 100_000;
 
@@ -111,8 +111,7 @@ fn library_kept(kept: &Kept, seed: u64, tally: &mut Tally) -> Result<(), String>
         tally,
     );
     for numbers in &parts.questions {
-        let [category, start, end] = numbers.map(usize::from);
-        plan::ask_span(&mut asker, (category, start, end))?;
+        plan::ask_span(&mut asker, numbers.map(usize::from))?;
     }
     for _ in 0..3 {
         plan::ask_everything(&mut asker)?;
@@ -202,8 +201,8 @@ fn run_random(run: &mut Run, options: &Options) {
         run.note(&format!("case {number} (run it again: {again})"), outcome);
     }
     if options.cases >= CASES_THAT_MEET_ALL {
-        for number in run.tally.never_met() {
-            run.note("the counts", Err(format!("refusal {number} was never met")));
+        for outcome in run.tally.never_met() {
+            run.note("the counts", Err(format!("{outcome} was never met")));
         }
     }
 }

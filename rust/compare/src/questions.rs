@@ -1,43 +1,10 @@
-//! The whole outcome of each question: which refusal, or the answer, and what every lent slice then holds.
+//! What document 01 says of each question: which refusal, or the answer, and what every lent slice then holds.
 
 use crate::grammar;
 use crate::reference::Reference;
+use crate::table::{Numbers, Span};
 use crate::tree::Trees;
 use berylskip::{Branch, Chart, Ends, Refused};
-
-#[derive(Clone, Copy, Debug, PartialEq, Eq)]
-pub enum Question {
-    Chart,
-    Ends {
-        category: usize,
-        start: usize,
-    },
-    Marks,
-    Tree {
-        category: usize,
-        start: usize,
-        end: usize,
-    },
-    Forest,
-}
-
-#[derive(Clone, Copy, Debug, PartialEq, Eq)]
-pub enum Answer {
-    Chart(Chart),
-    Ends(Ends),
-    Secret(usize),
-    Nodes(usize),
-    Records(usize),
-}
-
-/// All that a caller can lend; a question takes the chart and depth memory and its own output.
-pub struct Lent<'a> {
-    pub words: &'a mut [u64],
-    pub depths: &'a mut [u16],
-    pub marks: &'a mut [u8],
-    pub nodes: &'a mut [u8],
-    pub records: &'a mut [Branch],
-}
 
 /// The facts of a line, or why the grammar or the line is refused (1 to 7).
 pub fn judge(bytes: &[u8], line: &[u8]) -> Result<Reference, Refused> {
@@ -55,84 +22,37 @@ pub fn judge(bytes: &[u8], line: &[u8]) -> Result<Reference, Refused> {
     Ok(Reference::new(grammar, line))
 }
 
-/// Whether a question's numbers (8), then its work memory (9), are refused.
-pub fn refused_early(
+/// Refusal 8 at the first of the question's numbers that is out of range.
+pub fn check_numbers(reference: &Reference, numbers: Numbers, span: Span) -> Result<(), Refused> {
+    let [category, start, end] = span;
+    let tokens = reference.line.len();
+    let in_range = [
+        category < reference.categories(),
+        start <= tokens,
+        start <= end && end <= tokens,
+    ];
+    let taken = &in_range[..numbers as usize];
+    match taken.iter().position(|&holds| !holds) {
+        Some(place) => Err(Refused { number: 8, place }),
+        None => Ok(()),
+    }
+}
+
+/// Refusal 9 at the chart memory (0) or the depth memory (1), where that is too small.
+pub fn check_work_memory(
     reference: &Reference,
-    question: Question,
     words: usize,
     depths: usize,
-) -> Option<Refused> {
-    let (category, start, end) = match question {
-        Question::Ends { category, start } => (category, start, start),
-        Question::Tree {
-            category,
-            start,
-            end,
-        } => (category, start, end),
-        Question::Chart | Question::Marks | Question::Forest => (0, 0, 0),
-    };
-    let tokens = reference.line.len();
-    if category >= reference.categories() {
-        return Some(Refused {
-            number: 8,
-            place: 0,
-        });
-    }
-    if start > tokens {
-        return Some(Refused {
-            number: 8,
-            place: 1,
-        });
-    }
-    if end > tokens || end < start {
-        return Some(Refused {
-            number: 8,
-            place: 2,
-        });
-    }
-    if words < reference.categories() * (tokens + 1) {
-        return Some(Refused {
-            number: 9,
-            place: 0,
-        });
-    }
-    if depths < reference.categories() * (tokens + 1) * (tokens + 1) {
-        return Some(Refused {
-            number: 9,
-            place: 1,
-        });
-    }
-    None
-}
-
-/// The outcome of a question whose grammar and line are accepted; the lent memory is changed as the document says.
-pub fn outcome(
-    reference: &Reference,
-    trees: &mut Trees,
-    question: Question,
-    lent: Lent,
-) -> Result<Answer, Refused> {
-    if let Some(refused) = refused_early(reference, question, lent.words.len(), lent.depths.len()) {
-        return Err(refused);
-    }
-    fill_work_memory(reference, lent.words, lent.depths);
-    match question {
-        Question::Chart => Ok(Answer::Chart(Chart {
-            rounds: reference.rounds,
-            facts: reference.facts,
-        })),
-        Question::Ends { category, start } => Ok(Answer::Ends(ends(reference, category, start))),
-        Question::Marks => marks(reference, lent.marks),
-        Question::Tree {
-            category,
-            start,
-            end,
-        } => tree(reference, trees, (category, start, end), lent.nodes),
-        Question::Forest => forest(reference, lent.records),
+) -> Result<(), Refused> {
+    let rows = reference.categories() * reference.positions();
+    let suffices = [words >= rows, depths >= rows * reference.positions()];
+    match suffices.iter().position(|&holds| !holds) {
+        Some(place) => Err(Refused { number: 9, place }),
+        None => Ok(()),
     }
 }
 
-fn fill_work_memory(reference: &Reference, words: &mut [u64], depths: &mut [u16]) {
+pub fn fill_work_memory(reference: &Reference, words: &mut [u64], depths: &mut [u16]) {
     for category in 0..reference.categories() {
         for start in 0..reference.positions() {
             words[category * reference.positions() + start] = row(reference, category, start);
@@ -149,7 +69,14 @@ fn row(reference: &Reference, category: usize, start: usize) -> u64 {
         .sum()
 }
 
-fn ends(reference: &Reference, category: usize, start: usize) -> Ends {
+pub fn chart(reference: &Reference) -> Chart {
+    Chart {
+        rounds: reference.rounds,
+        facts: reference.facts,
+    }
+}
+
+pub fn ends(reference: &Reference, category: usize, start: usize) -> Ends {
     let all = reference.ends(category, start);
     Ends {
         row: row(reference, category, start),
@@ -178,7 +105,8 @@ pub fn secret_tokens(reference: &Reference) -> Vec<u8> {
     secret
 }
 
-fn marks(reference: &Reference, marks: &mut [u8]) -> Result<Answer, Refused> {
+/// The number of secret tokens; the marks are written.
+pub fn marks(reference: &Reference, marks: &mut [u8]) -> Result<usize, Refused> {
     let secret = secret_tokens(reference);
     if marks.len() < secret.len() {
         return Err(Refused {
@@ -187,36 +115,38 @@ fn marks(reference: &Reference, marks: &mut [u8]) -> Result<Answer, Refused> {
         });
     }
     marks[..secret.len()].copy_from_slice(&secret);
-    Ok(Answer::Secret(
-        secret.iter().filter(|&&mark| mark == 1).count(),
-    ))
+    Ok(secret.iter().filter(|&&mark| mark == 1).count())
 }
 
-fn tree(
-    reference: &Reference,
-    trees: &mut Trees,
-    fact: (usize, usize, usize),
-    room: &mut [u8],
-) -> Result<Answer, Refused> {
-    let (category, start, end) = fact;
-    if reference.depth(category, start, end) == 0 {
+/// The number of nodes of the fact's tree; the nodes are written.
+pub fn tree(trees: &mut Trees, span: Span, room: &mut [u8]) -> Result<usize, Refused> {
+    let [category, start, end] = span;
+    if trees.reference.depth(category, start, end) == 0 {
         return Err(Refused {
             number: 10,
             place: 0,
         });
     }
-    match trees.nodes(category, start, end, room.len() / 4) {
-        None => Err(Refused {
+    let nodes = trees
+        .nodes(category, start, end, room.len() / 4)
+        .ok_or(Refused {
             number: 11,
             place: 0,
-        }),
-        Some(nodes) => {
-            for (place, node) in nodes.iter().enumerate() {
-                room[4 * place..4 * place + 4].copy_from_slice(node);
-            }
-            Ok(Answer::Nodes(nodes.len()))
-        }
+        })?;
+    for (place, node) in nodes.iter().enumerate() {
+        room[4 * place..4 * place + 4].copy_from_slice(node);
     }
+    Ok(nodes.len())
+}
+
+/// How many bytes the fact's tree takes; none where the span is no fact, or its tree has more nodes than `most`.
+pub fn tree_bytes(trees: &mut Trees, span: Span, most: usize) -> Option<usize> {
+    let [category, start, end] = span;
+    if trees.reference.depth(category, start, end) == 0 {
+        return None;
+    }
+    let nodes = trees.nodes(category, start, end, most)?;
+    Some(4 * nodes.len())
 }
 
 /// Each prefix (p, d - 1, i, m) that derives, with the symbol after it, ascending by p, d, i, m.
@@ -245,7 +175,8 @@ pub fn record_count(reference: &Reference) -> usize {
     count
 }
 
-fn forest(reference: &Reference, records: &mut [Branch]) -> Result<Answer, Refused> {
+/// The number of records; they are written.
+pub fn forest(reference: &Reference, records: &mut [Branch]) -> Result<usize, Refused> {
     let count = record_count(reference);
     if records.len() < count {
         return Err(Refused {
@@ -266,5 +197,5 @@ fn forest(reference: &Reference, records: &mut [Branch]) -> Result<Answer, Refus
             written += 1;
         }
     });
-    Ok(Answer::Records(count))
+    Ok(count)
 }

@@ -1,7 +1,8 @@
 //! What the program prints for a job.
 
-use crate::questions::{self, Answer, Lent, Question};
+use crate::questions;
 use crate::reference::Reference;
+use crate::table::Numbers;
 use crate::tree::Trees;
 use berylskip::Refused;
 use std::fmt::Write;
@@ -79,9 +80,7 @@ fn refused_line(refused: Refused) -> String {
 fn print_job(input: &[u8], text: &mut String) -> Result<(), Refused> {
     let job = read_job(input)?;
     let reference = questions::judge(&job.grammar, &job.line)?;
-    if let Some(refused) = questions::refused_early(&reference, Question::Chart, WORDS, DEPTHS) {
-        return Err(refused);
-    }
+    questions::check_work_memory(&reference, WORDS, DEPTHS)?;
     print_facts(&reference, text);
     let marks: String = questions::secret_tokens(&reference)
         .iter()
@@ -94,7 +93,7 @@ fn print_job(input: &[u8], text: &mut String) -> Result<(), Refused> {
     }
     let mut trees = Trees::new(&reference);
     for numbers in &job.questions {
-        print_tree(&reference, &mut trees, *numbers, text);
+        print_tree(&mut trees, *numbers, text);
     }
     Ok(())
 }
@@ -115,29 +114,19 @@ fn print_facts(reference: &Reference, text: &mut String) {
     }
 }
 
-fn print_tree(reference: &Reference, trees: &mut Trees, numbers: [u8; 3], text: &mut String) {
+fn print_tree(trees: &mut Trees, numbers: [u8; 3], text: &mut String) {
     let [category, start, end] = numbers;
     let _ = writeln!(text, "tree {category} {start} {end}");
-    let question = Question::Tree {
-        category: category as usize,
-        start: start as usize,
-        end: end as usize,
-    };
-    let (mut words, mut depths, mut nodes) = (vec![0; WORDS], vec![0; DEPTHS], vec![0; TREE_BYTES]);
-    let lent = Lent {
-        words: &mut words,
-        depths: &mut depths,
-        marks: &mut [],
-        nodes: &mut nodes,
-        records: &mut [],
-    };
-    match questions::outcome(reference, trees, question, lent) {
-        Ok(Answer::Nodes(count)) => {
-            for node in nodes.chunks(4).take(count) {
+    let span = numbers.map(usize::from);
+    let mut bytes = [0; TREE_BYTES];
+    let outcome = questions::check_numbers(trees.reference, Numbers::Span, span)
+        .and_then(|()| questions::tree(trees, span, &mut bytes));
+    match outcome {
+        Ok(count) => {
+            for node in bytes.chunks(4).take(count) {
                 let _ = writeln!(text, "node {} {} {} {}", node[0], node[1], node[2], node[3]);
             }
         }
-        Ok(_) => unreachable!("a tree question answers a number of nodes"),
         Err(refused) => text.push_str(&refused_line(refused)),
     }
 }

@@ -1,17 +1,19 @@
 //! How many calls ended in which way, by question, and how many cases there were of each kind.
 
-use crate::questions::Question;
+use crate::table::{Question, QUESTIONS};
 use berylskip::Refused;
 use std::collections::BTreeMap;
 
-const QUESTIONS: [&str; 5] = ["chart", "ends", "marks", "tree", "forest"];
 const LAST_NUMBER: usize = 13;
+
+/// How often each outcome was met: 0 is an answer, the others are refusals.
+type Endings = [usize; LAST_NUMBER + 1];
 
 #[derive(Default)]
 pub struct Tally {
     kinds: BTreeMap<&'static str, usize>,
-    endings: [[usize; LAST_NUMBER + 1]; 5],
-    printed: [usize; LAST_NUMBER + 1],
+    endings: BTreeMap<&'static str, Endings>,
+    printed: Endings,
 }
 
 impl Tally {
@@ -20,15 +22,9 @@ impl Tally {
     }
 
     /// One call of the library: answered, or refused by a number.
-    pub fn add_call(&mut self, question: Question, refused: Option<Refused>) {
-        let row = match question {
-            Question::Chart => 0,
-            Question::Ends { .. } => 1,
-            Question::Marks => 2,
-            Question::Tree { .. } => 3,
-            Question::Forest => 4,
-        };
-        self.endings[row][refused.map_or(0, |refused| refused.number as usize)] += 1;
+    pub fn add_call(&mut self, question: &Question, refused: Option<Refused>) {
+        let row = self.endings.entry(question.name).or_default();
+        row[refused.map_or(0, |refused| refused.number as usize)] += 1;
     }
 
     /// One run of the program: the refusals that it is to print, or an answer where there is none.
@@ -52,14 +48,22 @@ impl Tally {
     }
 
     pub fn calls(&self) -> usize {
-        self.endings.iter().flatten().sum()
+        self.endings.values().flatten().sum()
     }
 
-    /// The refusals of the library (1 to 11) that no call met.
-    pub fn never_met(&self) -> Vec<usize> {
-        (1..=11)
-            .filter(|&number| self.endings.iter().all(|row| row[number] == 0))
-            .collect()
+    /// The outcomes that no call met: an answer to each question, and the refusals of the library (1 to 11).
+    pub fn never_met(&self) -> Vec<String> {
+        let answers = (QUESTIONS.iter())
+            .filter(|question| self.row(question)[0] == 0)
+            .map(|question| format!("an answer to {}", question.name));
+        let refusals = (1..=11)
+            .filter(|&number| QUESTIONS.iter().all(|one| self.row(one)[number] == 0))
+            .map(|number| format!("refusal {number}"));
+        answers.chain(refusals).collect()
+    }
+
+    fn row(&self, question: &Question) -> Endings {
+        (self.endings.get(question.name).copied()).unwrap_or_default()
     }
 
     pub fn print(&self) {
@@ -71,9 +75,10 @@ impl Tally {
                 .map(|number| number.to_string())
                 .collect::<Vec<_>>(),
         );
-        for (name, row) in QUESTIONS.iter().zip(&self.endings) {
+        for question in QUESTIONS {
+            let row = self.row(question);
             print_row(
-                name,
+                question.name,
                 &row[..=11].iter().map(usize::to_string).collect::<Vec<_>>(),
             );
         }

@@ -12,7 +12,7 @@ struct Choice {
 }
 
 pub struct Trees<'a> {
-    reference: &'a Reference,
+    pub reference: &'a Reference,
     choices: HashMap<(usize, usize, usize), Choice>,
 }
 
