@@ -21,6 +21,7 @@ use Rattle.derivation.specs.Facts.{facts}
 use Rattle.derivation.specs.FactCount.{factCount}
 use Rattle.derivation.specs.RoundsOf.{roundsOf}
 use Rattle.derivation.proofs.Table.{at-listed}
+use Rattle.derivation.proofs.Facts.{fact-count}
 use Rattle.derivation.proofs.RoundsOf.{rounds-are}
 use Rattle.checks.specs.declared.Asked.the-variants.{Nothing, Start}
 use Rattle.checks.proofs.Laws.{not-both}
@@ -57,20 +58,20 @@ row-is G line proper A i row shows x small same = same-members row x (λ j. let 
 module _ (g line words depths : List ℕ) (s : Sections) where
   pub chart-answered : Passes g line Nothing (length words) (length depths) s → {answer : ChartAnswer} {words′ depths′ : List ℕ} → ChartOutcome g line words depths answer words′ depths′ →
       (answer ≡ chart.Filled (roundsOf (grammarOf g s) line) (factCount (grammarOf g s) line)) × WorkFilled (grammarOf g s) line words depths words′ depths′
-  chart-answered passes (turnedDown p a t w d) = absurd (not-both p passed)
+  chart-answered passes (turnedDown p a w d) = absurd (not-both p passed)
     where
       passed : reported (chartChecks g line words depths) ≡ check.Passed
       passed = rw (early-passed words depths check.Passed check.Passed passes)
   chart-answered passes {answer} (filled p t r f y) =
       let same = grammar-is passes in
       let rounds = rounds-are (grammarOf g s) line (sections-proper g s (sections passes)) (rw same at r) in
-      let facts = rw same at f in
+      let facts = fact-count (sections-proper g s (sections passes)) (rw same at f) in
       (chart-told answer t ∙ rw (rounds, facts), rw same at y)
 
   pub ends-answered : (A i : ℕ) → Passes g line (Start A i) (length words) (length depths) s →
       {answer : EndsAnswer} {words′ depths′ : List ℕ} → EndsOutcome g line A i words depths answer words′ depths′ →
       (row : ℕ) × (smallest : ℕ) × (answer ≡ ends.Row row (countBelow 64 row) smallest) × ((j : ℕ) → Member row j ↔ Fact (grammarOf g s) line A i j) × First row smallest
-  ends-answered A i passes (ends-outcome.turnedDown p a t w d) = absurd (not-both p passed)
+  ends-answered A i passes (ends-outcome.turnedDown p a w d) = absurd (not-both p passed)
     where
       passed : reported (endsChecks g line A i words depths) ≡ check.Passed
       passed = rw (early-passed words depths check.Passed check.Passed passes)

@@ -1,14 +1,17 @@
 -- The outcomes of Chart and Ends, from what the checks and the filling gave.
 use Prim.Native.Nat.{ℕ, _+_, _*_, _≤_, _<_}
-use mathlib.Core.Path.{_≡_, refl, _∙_}
-use mathlib.Core.List.{List}
+use mathlib.Core.Path.{_≡_, refl, sym, ap, _∙_}
+use mathlib.Core.List.{List, [], _∷_}
 use lib.ListN.{length, getD}
 use Rattle.refusals.specs.declared.Refusal.{Refusal}
 use Rattle.refusals.specs.declared.Check.the-variants as check
 use Rattle.refusals.specs.Order.{early}
+use Rattle.refusals.specs.Told as told
 use Rattle.positions.specs.Count.{countBelow}
 use Rattle.positions.specs.First.{First}
 use Rattle.derivation.specs.FactCount.{total}
+use Rattle.derivation.specs.FactList.{factList}
+use Rattle.derivation.proofs.Facts.{length-factList, factList-is}
 use Rattle.checks.specs.declared.Asked.the-variants.{Nothing, Start}
 use Rattle.checks.specs.Memory.{chartSize}
 use Rattle.grammar.specs.declared.reading.Sections.{Sections}
@@ -27,10 +30,10 @@ use Rattle.chart.proofs.CheckLaws.{Passes, sections, line-is, grammar-i
 
 module _ (g line words depths : List ℕ) where
   pub chart-turned : (refusal : Refusal) → early (chartChecks g line words depths) ≡ check.Refused refusal → ChartOutcome g line words depths (chart.Refused refusal) words depths
-  chart-turned refusal e = chart-outcome.turnedDown {refusal = refusal} (rw e) refl refl refl refl
+  chart-turned refusal e = chart-outcome.turnedDown {refusal = refusal} (rw e) refl refl refl
 
   pub ends-turned : (A i : ℕ) (refusal : Refusal) → early (endsChecks g line A i words depths) ≡ check.Refused refusal → EndsOutcome g line A i words depths (ends.Refused refusal) words depths
-  ends-turned A i refusal e = ends-outcome.turnedDown {refusal = refusal} (rw e) refl refl refl refl
+  ends-turned A i refusal e = ends-outcome.turnedDown {refusal = refusal} (rw e) refl refl refl
 
   pub ends-found :
       (s : Sections) (A i smallest : ℕ) (words′ depths′ : List ℕ) → Passes g line (Start A i) (length words) (length depths) s → A < s .categories → i ≤ length line →
@@ -56,9 +59,10 @@ module _ (g line words depths : List ℕ) where
       let read = sections passes in
       let same = grammar-is passes in
       let count = facts-counted (grammarOf g s) line words depths words′ depths′ (sections-proper g s read) (line-is passes .short) (filled .work) in
-      chart-outcome.filled {rounds = rounds} {facts = facts}
+      let number : facts ≡ length (factList (grammarOf g s) line) = counted ∙ (rw (category-count g s read) at count) ∙ sym (length-factList (grammarOf g s) line) in
+      chart-outcome.filled {rounds = rounds} {facts = factList (grammarOf g s) line}
       (rw (early-passed words depths check.Passed check.Passed passes))
-      refl
+      (ap (λ (n : ℕ). told.answered (rounds ∷ n ∷ [])) number)
       (rw same (filled .most))
-      (rw same (counted ∙ (rw (category-count g s read) at count)))
+      (rw same (factList-is (grammarOf g s) line (sections-proper g s read)))
       (rw same (filled .work))

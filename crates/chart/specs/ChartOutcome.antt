@@ -2,13 +2,13 @@
 use Prim.Native.Nat.{ℕ}
 use mathlib.Core.Path.{_≡_}
 use mathlib.Core.List.{List, [], _∷_}
+use lib.ListN.{length}
 use Rattle.refusals.specs.declared.Refusal.{Refusal}
 use Rattle.refusals.specs.declared.Check.the-variants as check
-use Rattle.refusals.specs.Row.{rowOf}
 use Rattle.refusals.specs.Order.{reported}
 use Rattle.refusals.specs.Told as told
 use Rattle.derivation.specs.Rounds.{RoundsIs}
-use Rattle.derivation.specs.FactCount.{factCount}
+use Rattle.derivation.specs.FactList.{Span, FactsAre}
 use Rattle.grammar.specs.Given.{grammarGiven}
 use Rattle.filling.specs.Filled.{WorkFilled}
 use Rattle.chart.specs.declared.ChartAnswer.{ChartAnswer}
@@ -17,16 +17,15 @@ use Rattle.chart.specs.Checks.{chartChecks}
 use Rattle.chart.specs.Told.{chartTold}
 
 pub data ChartOutcome (g line words depths : List ℕ) (answer : ChartAnswer) (words′ depths′ : List ℕ) : Type 0 where
-  -- the first refusal is told by its number and place, and no lent memory changes
+  -- the first refusal is the answer, and no lent memory changes
   turnedDown : {refusal : Refusal} →
       reported (chartChecks g line words depths) ≡ check.Refused refusal →
-      answer ≡ chart.Refused refusal → chartTold answer ≡ told.refused (rowOf refusal) →
-      words′ ≡ words → depths′ ≡ depths →
+      answer ≡ chart.Refused refusal → words′ ≡ words → depths′ ≡ depths →
       ChartOutcome g line words depths answer words′ depths′
-  -- rounds and facts are told, and the work memory is filled
-  filled : {rounds facts : ℕ} →
+  -- rounds and the number of facts are told, and the work memory is filled
+  filled : {rounds : ℕ} {facts : List Span} →
       reported (chartChecks g line words depths) ≡ check.Passed →
-      chartTold answer ≡ told.answered (rounds ∷ facts ∷ []) →
-      RoundsIs (grammarGiven g) line rounds → facts ≡ factCount (grammarGiven g) line →
+      chartTold answer ≡ told.answered (rounds ∷ length facts ∷ []) →
+      RoundsIs (grammarGiven g) line rounds → FactsAre (grammarGiven g) line facts →
       WorkFilled (grammarGiven g) line words depths words′ depths′ →
       ChartOutcome g line words depths answer words′ depths′

@@ -5,7 +5,6 @@ use mathlib.Core.Logic.{_↔_}
 use mathlib.Core.List.{List, [], _∷_}
 use Rattle.refusals.specs.declared.Refusal.{Refusal}
 use Rattle.refusals.specs.declared.Check.the-variants as check
-use Rattle.refusals.specs.Row.{rowOf}
 use Rattle.refusals.specs.Order.{reported}
 use Rattle.refusals.specs.Told as told
 use Rattle.positions.specs.Member.{Member}
@@ -20,11 +19,10 @@ use Rattle.chart.specs.Checks.{endsChecks}
 use Rattle.chart.specs.Told.{endsTold}
 
 pub data EndsOutcome (g line : List ℕ) (A i : ℕ) (words depths : List ℕ) (answer : EndsAnswer) (words′ depths′ : List ℕ) : Type 0 where
-  -- the first refusal is told by its number and place, and no lent memory changes
+  -- the first refusal is the answer, and no lent memory changes
   turnedDown : {refusal : Refusal} →
       reported (endsChecks g line A i words depths) ≡ check.Refused refusal →
-      answer ≡ ends.Refused refusal → endsTold answer ≡ told.refused (rowOf refusal) →
-      words′ ≡ words → depths′ ≡ depths →
+      answer ≡ ends.Refused refusal → words′ ≡ words → depths′ ≡ depths →
       EndsOutcome g line A i words depths answer words′ depths′
   -- the row of (A, i), the number of its ends and the smallest are told, and the work memory is filled
   found : {row count smallest : ℕ} →

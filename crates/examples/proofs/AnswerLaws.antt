@@ -19,6 +19,7 @@ use Rattle.derivation.specs.Node.{Node}
 use Rattle.derivation.specs.Branch as derivation
 use Rattle.derivation.specs.RoundsOf.{roundsOf}
 use Rattle.derivation.specs.FactCount.{total, factCount}
+use Rattle.derivation.specs.FactList.{factList}
 use Rattle.derivation.specs.Marks as of-line
 use Rattle.derivation.specs.Shown.{shown}
 use Rattle.derivation.specs.Forest as records
@@ -26,6 +27,7 @@ use Rattle.derivation.proofs.Tests.{and-parts}
 use Rattle.derivation.proofs.Totals.{total-same}
 use Rattle.derivation.proofs.Table.{at-listed}
 use Rattle.derivation.proofs.RoundsOf.{roundsOf-is}
+use Rattle.derivation.proofs.Facts.{length-factList, factList-is}
 use Rattle.checks.specs.declared.Asked.{Asked}
 use Rattle.checks.specs.declared.Asked.the-variants.{Nothing, Start, Span}
 use Rattle.checks.specs.Line.{lineCheck}
@@ -102,11 +104,11 @@ module _ (g line : List ℕ) (read : readOf g ≡ Accepted (sectionsGiven g)) (i
   chart-holds told t = λ words depths lent. (
     chart-answer.Filled (roundsOf G line) (factCount G line),
     sym (told-is told _ t),
-    chart-outcome.filled {rounds = roundsOf G line} {facts = factCount G line}
+    chart-outcome.filled {rounds = roundsOf G line} {facts = factList G line}
         (rw (passed words depths lent Nothing check.Passed check.Passed refl))
-        refl
+        (ap (λ (n : ℕ). answered (roundsOf G line ∷ n ∷ [])) (sym (length-factList G line)))
         (roundsOf-is G line proper)
-        refl
+        (factList-is G line proper)
         (work words depths lent),
   )
 
@@ -182,7 +184,6 @@ module _ (g line : List ℕ) (read : readOf g ≡ Accepted (sectionsGiven g)) (i
         sym (told-is told _ (p .1)),
         forest-outcome.answered
             (rw (early, le-ltb (length rows) (recordCount G line) fits))
-            (ap (λ (l : List derivation.Branch). forest-answer.Records (length l)) is)
             (ap (λ (l : List derivation.Branch). answered (length l ∷ [])) is)
             (work words depths lent)
             (ap (λ (l : List derivation.Branch). written (map writing.written l) rows) is ∙ rw (length-map (records.forest G line) writing.written)),

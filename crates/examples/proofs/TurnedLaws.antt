@@ -43,4 +43,4 @@ module _ (g line : List ℕ) (refusal : Refusal) (read : readOf g ≡ Refused re
   turned-holds (forest branches) told asBefore ok = λ words depths rows lent room.
       let p = and-parts (sameBy numbers branches []) (sameTold told (refused (rowOf refusal))) ok in
       let none = same-by numbers branch-one branches [] (p .0) in
-      (forest-answer.Refused refusal, sym (told-is told _ (p .1)), forest-outcome.turnedDown {refusal = refusal} (rw read) refl refl refl refl (rw none))
+      (forest-answer.Refused refusal, sym (told-is told _ (p .1)), forest-outcome.turnedDown {refusal = refusal} (rw read) refl refl refl (rw none))

@@ -46,9 +46,9 @@ module _ (g line words depths : List ℕ) (rows : List Branch) (words′ depths�
   pub plan-outcome :
       Planned g line words depths (length rows) words′ depths′ plan → rows′ ≡ take (plan .n) (writtenFrom g line (plan .first)) ++ drop (plan .n) rows →
       ForestOutcome g line words depths rows (plan .answer) words′ depths′ rows′
-  plan-outcome (planned.turnedDown {refusal = x} e z a w d) r = outcome.turnedDown {refusal = x} e a (ap forestTold a) w d (same-rows r z)
-  plan-outcome (planned.noRoom {refusal = x} e l z a f) r = outcome.noRoom {refusal = x} e l a (ap forestTold a) f (same-rows r z)
+  plan-outcome (planned.turnedDown {refusal = x} e z a w d) r = outcome.turnedDown {refusal = x} e a w d (same-rows r z)
+  plan-outcome (planned.noRoom {refusal = x} e l z a f) r = outcome.noRoom {refusal = x} e l a f (same-rows r z)
   plan-outcome (planned.ready e l fits z a f h) r =
-      outcome.answered (rw (e, l)) a (ap forestTold a) f
+      outcome.answered (rw (e, l)) (ap forestTold a) f
       (r ∙ ap₂ (λ (s : List Branch) (k : ℕ). s ++ drop k rows)
       (all-written (forest (grammarGiven g) line) (plan .n) (writtenFrom g line (plan .first)) z (λ some. ap (map written) (sym (h some .all)))) z)

@@ -5,7 +5,6 @@ use mathlib.Core.List.{List, [], _∷_, _++_, map}
 use lib.ListN.{length, drop}
 use Rattle.refusals.specs.declared.Refusal.{Refusal}
 use Rattle.refusals.specs.declared.Check.the-variants as check
-use Rattle.refusals.specs.Row.{rowOf}
 use Rattle.refusals.specs.Order.{early, late, reported}
 use Rattle.refusals.specs.Told as told
 use Rattle.derivation.specs.Forest.{forest}
@@ -19,23 +18,22 @@ use Rattle.forest.specs.Told.{forestTold}
 use Rattle.forest.specs.Writing.{written}
 
 pub data ForestOutcome (g line words depths : List ℕ) (rows : List Branch) (answer : ForestAnswer) (words′ depths′ : List ℕ) (rows′ : List Branch) : Type 0 where
-  -- a refusal before or during the filling is told by its number and place, and no lent memory changes
+  -- 1 to 9 and 12: the first refusal is the answer, and no lent memory changes
   turnedDown : {refusal : Refusal} →
       early (forestChecks g line words depths (length rows)) ≡ check.Refused refusal →
-      answer ≡ variants.Refused refusal → forestTold answer ≡ told.refused (rowOf refusal) →
-      words′ ≡ words → depths′ ≡ depths → rows′ ≡ rows →
+      answer ≡ variants.Refused refusal → words′ ≡ words → depths′ ≡ depths → rows′ ≡ rows →
       ForestOutcome g line words depths rows answer words′ depths′ rows′
-  -- too little room is told with the number of records, the work memory is filled, and the rows are untouched
+  -- 11: the work memory is filled, and the rows are untouched
   noRoom : {refusal : Refusal} →
       early (forestChecks g line words depths (length rows)) ≡ check.Passed →
       late (forestChecks g line words depths (length rows)) ≡ check.Refused refusal →
-      answer ≡ variants.Refused refusal → forestTold answer ≡ told.refused (rowOf refusal) →
+      answer ≡ variants.Refused refusal →
       WorkFilled (grammarGiven g) line words depths words′ depths′ → rows′ ≡ rows →
       ForestOutcome g line words depths rows answer words′ depths′ rows′
   -- the number of records is told, the work memory is filled, and the rows begin with the forest's records
   answered :
       reported (forestChecks g line words depths (length rows)) ≡ check.Passed →
-      answer ≡ variants.Records (recordCount (grammarGiven g) line) → forestTold answer ≡ told.answered (recordCount (grammarGiven g) line ∷ []) →
+      forestTold answer ≡ told.answered (recordCount (grammarGiven g) line ∷ []) →
       WorkFilled (grammarGiven g) line words depths words′ depths′ →
       rows′ ≡ map written (forest (grammarGiven g) line) ++ drop (recordCount (grammarGiven g) line) rows →
       ForestOutcome g line words depths rows answer words′ depths′ rows′

@@ -19,7 +19,7 @@ use Rattle.marks.specs.Outcome.{marksRoom, marksChecks, MarksOutcome, tu
 
 module _ (g line words depths marks : List ℕ) where
   pub marks-turned : (refusal : Refusal) → early (marksChecks g line words depths marks) ≡ check.Refused refusal → MarksOutcome g line words depths marks (answers.Refused refusal) words depths marks
-  marks-turned refusal e = turnedDown {refusal = refusal} e refl refl refl refl refl
+  marks-turned refusal e = turnedDown {refusal = refusal} e refl refl refl refl
 
   module _ (s : Sections) (passes : Passes g line Nothing (length words) (length depths) s) where
     passed : early (marksChecks g line words depths marks) ≡ check.Passed
@@ -28,7 +28,7 @@ module _ (g line words depths marks : List ℕ) where
     pub marks-no-room : (words′ depths′ : List ℕ) → length marks < length line → WorkFilled (grammarOf g s) line words depths words′ depths′ →
         MarksOutcome g line words depths marks (answers.Refused (MarksTooSmall (length line))) words′ depths′ marks
     marks-no-room words′ depths′ l filled =
-        noRoom {refusal = MarksTooSmall (length line)} passed (rw (lt-ltb (length marks) (length line) l)) refl refl (rw (grammar-is passes) filled) refl
+        noRoom {refusal = MarksTooSmall (length line)} passed (rw (lt-ltb (length marks) (length line) l)) refl (rw (grammar-is passes) filled) refl
 
     pub marks-answered : (secret : ℕ) (words′ depths′ marks′ : List ℕ) → length line ≤ length marks → WorkFilled (grammarOf g s) line words depths words′ depths′ →
         MarksAre (grammarOf g s) line marks marks′ secret → MarksOutcome g line words depths marks (answers.Marked secret) words′ depths′ marks′

@@ -82,18 +82,18 @@ module _ (g line words depths marks : List ℕ) where
   pub marks-outcome-unique :
       {a b : MarksAnswer} {w d m w′ d′ m′ : List ℕ} → MarksOutcome g line words depths marks a w d m → MarksOutcome g line words depths marks b w′ d′ m′ →
       (a ≡ b) × (w ≡ w′) × (d ≡ d′) × (m ≡ m′)
-  marks-outcome-unique (turnedDown e p t x y z) (turnedDown f q u x′ y′ z′) =
+  marks-outcome-unique (turnedDown e p x y z) (turnedDown f q x′ y′ z′) =
       let r = one-refusal e f in (p ∙ ap answers.Refused r ∙ sym q, x ∙ sym x′, y ∙ sym y′, z ∙ sym z′)
-  marks-outcome-unique (turnedDown e p t x y z) (noRoom f l q u x′ z′) = absurd (not-both e f)
-  marks-outcome-unique (turnedDown e p t x y z) (answered f u x′ z′) = absurd (not-both e (reported-passed checks f .0))
-  marks-outcome-unique (noRoom e k p t x z) (turnedDown f q u x′ y′ z′) = absurd (not-both f e)
-  marks-outcome-unique (noRoom e k p t x z) (noRoom f l q u x′ z′) =
+  marks-outcome-unique (turnedDown e p x y z) (noRoom f l q x′ z′) = absurd (not-both e f)
+  marks-outcome-unique (turnedDown e p x y z) (answered f u x′ z′) = absurd (not-both e (reported-passed checks f .0))
+  marks-outcome-unique (noRoom e k p x z) (turnedDown f q x′ y′ z′) = absurd (not-both f e)
+  marks-outcome-unique (noRoom e k p x z) (noRoom f l q x′ z′) =
       let r = one-refusal k l in
       let w = filled-unique _ line words depths x x′ in
       (p ∙ ap answers.Refused r ∙ sym q, w .0, w .1, z ∙ sym z′)
-  marks-outcome-unique (noRoom e k p t x z) (answered f u x′ z′) = absurd (not-both k (reported-passed checks f .1))
-  marks-outcome-unique (answered e t x z) (turnedDown f q u x′ y′ z′) = absurd (not-both f (reported-passed checks e .0))
-  marks-outcome-unique (answered e t x z) (noRoom f l q u x′ z′) = absurd (not-both l (reported-passed checks e .1))
+  marks-outcome-unique (noRoom e k p x z) (answered f u x′ z′) = absurd (not-both k (reported-passed checks f .1))
+  marks-outcome-unique (answered e t x z) (turnedDown f q x′ y′ z′) = absurd (not-both f (reported-passed checks e .0))
+  marks-outcome-unique (answered e t x z) (noRoom f l q x′ z′) = absurd (not-both l (reported-passed checks e .1))
   marks-outcome-unique {a} {b} (answered {secret = r} e t x z) (answered {secret = s} f u x′ z′) =
       let w = filled-unique _ line words depths x x′ in
       let m = marks-unique z z′ in

@@ -8,7 +8,6 @@ use Rattle.refusals.specs.declared.Refusal.{Refusal}
 use Rattle.refusals.specs.declared.Refusal.the-variants.{MarksTooSmall}
 use Rattle.refusals.specs.declared.Check.{Check}
 use Rattle.refusals.specs.declared.Check.the-variants as check
-use Rattle.refusals.specs.Row.{rowOf}
 use Rattle.refusals.specs.Order.{Checks, early, late, reported}
 use Rattle.refusals.specs.Told as told
 use Rattle.checks.specs.declared.Asked.the-variants.{Nothing}
@@ -30,16 +29,15 @@ abbrev pub marksChecks : (g line words depths marks : List ℕ) → Checks
 marksChecks g line words depths marks = checksOf g line Nothing words depths check.Passed (marksRoom line marks)
 
 pub data MarksOutcome (g line words depths marks : List ℕ) (answer : MarksAnswer) (words′ depths′ marks′ : List ℕ) : Type 0 where
-  -- 1 to 9 and 12 are told by number and place, and no lent memory changes
+  -- 1 to 9 and 12: the first refusal is the answer, and no lent memory changes
   turnedDown : {refusal : Refusal} →
       early (marksChecks g line words depths marks) ≡ check.Refused refusal →
-      answer ≡ answers.Refused refusal → marksTold answer ≡ told.refused (rowOf refusal) →
-      words′ ≡ words → depths′ ≡ depths → marks′ ≡ marks →
+      answer ≡ answers.Refused refusal → words′ ≡ words → depths′ ≡ depths → marks′ ≡ marks →
       MarksOutcome g line words depths marks answer words′ depths′ marks′
-  -- 11 is told, the work memory is filled, and the marks are untouched
+  -- 11: the work memory is filled, and the marks are untouched
   noRoom : {refusal : Refusal} →
       early (marksChecks g line words depths marks) ≡ check.Passed → late (marksChecks g line words depths marks) ≡ check.Refused refusal →
-      answer ≡ answers.Refused refusal → marksTold answer ≡ told.refused (rowOf refusal) →
+      answer ≡ answers.Refused refusal →
       WorkFilled (grammarGiven g) line words depths words′ depths′ → marks′ ≡ marks →
       MarksOutcome g line words depths marks answer words′ depths′ marks′
   -- the number of secret tokens is told, the work memory is filled, and the marks are written

@@ -66,8 +66,8 @@ module _ {g line : List ℕ} {s : Sections} (passes : Passes g line Nothing 512 
 
       go : {words′ depths′ marks′ : List ℕ} {answer : MarksAnswer} → MarksOutcome g line words depths marks answer words′ depths′ marks′ →
           (take (length line) marks′ ≡ computed.marks (grammarGiven g) line) × (length marks′ ≡ 63) × ((t : ℕ) → t < length line → getD marks′ t 0 ≤ 1)
-      go (turnedDown e _ _ _ _ _) = absurd (not-both e (passed .0))
-      go (noRoom _ e _ _ _ _) = absurd (not-both e (passed .1))
+      go (turnedDown e _ _ _ _) = absurd (not-both e (passed .0))
+      go (noRoom _ e _ _ _) = absurd (not-both e (passed .1))
       go (answered _ _ _ are) = (marks-computed ready-proper room are, are .long ∙ m, λ t l. mark-le (are .mark t l))
 
 -- a question's refusal is what is reported, and its count that of the nodes shown, whose bytes the row begins with
