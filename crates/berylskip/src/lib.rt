@@ -37,7 +37,11 @@ pub extern "C" fn berylskip_chart_nonnull(
     facts: &mut usize,
     place: &mut usize,
 ) -> u8
-    ensures { λ r. ⌜ ChartExported (now (g .entry)) (now (line .entry)) (now (words .entry)) (now (depths .entry)) (now (rounds .entry) ∷ now (facts .entry) ∷ []) (now (place .entry)) (now (words .exit)) (now (depths .exit)) (numbers r (now (rounds .exit) ∷ now (facts .exit) ∷ []) (now (place .exit))) ⌝ }
+    ensures { λ r. ⌜
+        ChartExported (now (g .entry)) (now (line .entry))
+        (now (words .entry)) (now (depths .entry)) (now (rounds .entry) ∷ now (facts .entry) ∷ []) (now (place .entry))
+        (now (words .exit)) (now (depths .exit)) (numbers r (now (rounds .exit) ∷ now (facts .exit) ∷ []) (now (place .exit)))
+        ⌝ }
 {
     match chart(g, line, words, depths) {
         ChartAnswer::Refused(refusal) => refuse(refusal, place),
@@ -66,7 +70,11 @@ pub extern "C" fn berylskip_ends_nonnull(
     smallest: &mut u32,
     place: &mut usize,
 ) -> u8
-    ensures { λ r. ⌜ EndsExported (now (g .entry)) (now (line .entry)) category start (now (words .entry)) (now (depths .entry)) (now (row .entry) ∷ now (ends .entry) ∷ now (smallest .entry) ∷ []) (now (place .entry)) (now (words .exit)) (now (depths .exit)) (numbers r (now (row .exit) ∷ now (ends .exit) ∷ now (smallest .exit) ∷ []) (now (place .exit))) ⌝ }
+    ensures { λ r. ⌜
+        EndsExported (now (g .entry)) (now (line .entry)) category start
+        (now (words .entry)) (now (depths .entry)) (now (row .entry) ∷ now (ends .entry) ∷ now (smallest .entry) ∷ []) (now (place .entry))
+        (now (words .exit)) (now (depths .exit)) (numbers r (now (row .exit) ∷ now (ends .exit) ∷ now (smallest .exit) ∷ []) (now (place .exit)))
+        ⌝ }
 {
     match chart::ends(g, line, category, start, words, depths) {
         EndsAnswer::Refused(refusal) => refuse(refusal, place),
@@ -94,7 +102,11 @@ pub extern "C" fn berylskip_marks_nonnull(
     secret: &mut usize,
     place: &mut usize,
 ) -> u8
-    ensures { λ r. ⌜ MarksExported (now (g .entry)) (now (line .entry)) (now (words .entry)) (now (depths .entry)) (now (marks .entry)) (now (secret .entry) ∷ []) (now (place .entry)) (now (words .exit)) (now (depths .exit)) (now (marks .exit)) (numbers r (now (secret .exit) ∷ []) (now (place .exit))) ⌝ }
+    ensures { λ r. ⌜
+        MarksExported (now (g .entry)) (now (line .entry))
+        (now (words .entry)) (now (depths .entry)) (now (marks .entry)) (now (secret .entry) ∷ []) (now (place .entry))
+        (now (words .exit)) (now (depths .exit)) (now (marks .exit)) (numbers r (now (secret .exit) ∷ []) (now (place .exit)))
+        ⌝ }
 {
     match marks::marks(g, line, words, depths, marks) {
         MarksAnswer::Refused(refusal) => refuse(refusal, place),
@@ -119,7 +131,11 @@ pub extern "C" fn berylskip_tree_nonnull(
     nodes: &mut usize,
     place: &mut usize,
 ) -> u8
-    ensures { λ r. ⌜ TreeExported (now (g .entry)) (now (line .entry)) category start end (now (words .entry)) (now (depths .entry)) (now (out .entry)) (now (nodes .entry) ∷ []) (now (place .entry)) (now (words .exit)) (now (depths .exit)) (now (out .exit)) (numbers r (now (nodes .exit) ∷ []) (now (place .exit))) ⌝ }
+    ensures { λ r. ⌜
+        TreeExported (now (g .entry)) (now (line .entry)) category start end
+        (now (words .entry)) (now (depths .entry)) (now (out .entry)) (now (nodes .entry) ∷ []) (now (place .entry))
+        (now (words .exit)) (now (depths .exit)) (now (out .exit)) (numbers r (now (nodes .exit) ∷ []) (now (place .exit)))
+        ⌝ }
 {
     match tree(g, line, category, start, end, words, depths, out) {
         TreeAnswer::Refused(refusal) => refuse(refusal, place),
@@ -154,7 +170,11 @@ pub extern "C" fn berylskip_forest_nonnull(
     records: &mut usize,
     place: &mut usize,
 ) -> u8
-    ensures { λ r. ⌜ ForestExported (now (g .entry)) (now (line .entry)) (now (words .entry)) (now (depths .entry)) (now (rows .entry)) (now (records .entry) ∷ []) (now (place .entry)) (now (words .exit)) (now (depths .exit)) (now (rows .exit)) (numbers r (now (records .exit) ∷ []) (now (place .exit))) ⌝ }
+    ensures { λ r. ⌜
+        ForestExported (now (g .entry)) (now (line .entry))
+        (now (words .entry)) (now (depths .entry)) (now (rows .entry)) (now (records .entry) ∷ []) (now (place .entry))
+        (now (words .exit)) (now (depths .exit)) (now (rows .exit)) (numbers r (now (records .exit) ∷ []) (now (place .exit)))
+        ⌝ }
 {
     let answer = forest(g, line, words, depths, rows);
     hand_records(answer, records, place)

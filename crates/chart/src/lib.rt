@@ -23,7 +23,11 @@ pub enum EndsAnswer {
 
 // Fills the work memory with every fact of every category, and its depth.
 pub fn chart(g: &[u8], line: &[u8], words: &mut [u64], depths: &mut [u16]) -> ChartAnswer
-    ensures { λ r. ⌜ ChartOutcome (now (g .entry)) (now (line .entry)) (now (words .entry)) (now (depths .entry)) r (now (words .exit)) (now (depths .exit)) ⌝ }
+    ensures { λ r. ⌜
+        ChartOutcome (now (g .entry)) (now (line .entry))
+        (now (words .entry)) (now (depths .entry)) r
+        (now (words .exit)) (now (depths .exit))
+        ⌝ }
 {
     let s = match work::checked(g, line, Asked::Nothing, words.len(), depths.len()) {
         Reading::Refused(refusal) => return ChartAnswer::Refused(refusal),
@@ -43,7 +47,11 @@ pub fn ends(
     words: &mut [u64],
     depths: &mut [u16],
 ) -> EndsAnswer
-    ensures { λ r. ⌜ EndsOutcome (now (g .entry)) (now (line .entry)) category start (now (words .entry)) (now (depths .entry)) r (now (words .exit)) (now (depths .exit)) ⌝ }
+    ensures { λ r. ⌜
+        EndsOutcome (now (g .entry)) (now (line .entry)) category start
+        (now (words .entry)) (now (depths .entry)) r
+        (now (words .exit)) (now (depths .exit))
+        ⌝ }
 {
     let asked = Asked::Start { category, start };
     let s = match work::checked(g, line, asked, words.len(), depths.len()) {

@@ -148,7 +148,11 @@ pub fn forest(
     depths: &mut [u16],
     rows: &mut [Branch],
 ) -> ForestAnswer
-    ensures { λ r. ⌜ ForestOutcome (now (g .entry)) (now (line .entry)) (now (words .entry)) (now (depths .entry)) (now (rows .entry)) r (now (words .exit)) (now (depths .exit)) (now (rows .exit)) ⌝ }
+    ensures { λ r. ⌜
+        ForestOutcome (now (g .entry)) (now (line .entry))
+        (now (words .entry)) (now (depths .entry)) (now (rows .entry)) r
+        (now (words .exit)) (now (depths .exit)) (now (rows .exit))
+        ⌝ }
 {
     let p = prepare(g, line, words, depths, rows.len());
     fill(rows, g, line, words, p.first, p.n);

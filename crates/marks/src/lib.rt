@@ -82,7 +82,11 @@ pub fn marks(
     depths: &mut [u16],
     marks: &mut [u8],
 ) -> MarksAnswer
-    ensures { λ r. ⌜ MarksOutcome (now (g .entry)) (now (line .entry)) (now (words .entry)) (now (depths .entry)) (now (marks .entry)) r (now (words .exit)) (now (depths .exit)) (now (marks .exit)) ⌝ }
+    ensures { λ r. ⌜
+        MarksOutcome (now (g .entry)) (now (line .entry))
+        (now (words .entry)) (now (depths .entry)) (now (marks .entry)) r
+        (now (words .exit)) (now (depths .exit)) (now (marks .exit))
+        ⌝ }
 {
     let s = match checked(g, line, Asked::Nothing, words.len(), depths.len()) {
         Reading::Refused(refusal) => return MarksAnswer::Refused(refusal),

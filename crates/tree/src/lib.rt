@@ -73,7 +73,11 @@ pub fn tree(
     depths: &mut [u16],
     out: &mut [u8],
 ) -> TreeAnswer
-    ensures { λ r. ⌜ TreeOutcome (now (g .entry)) (now (line .entry)) category start end (now (words .entry)) (now (depths .entry)) (now (out .entry)) r (now (words .exit)) (now (depths .exit)) (now (out .exit)) ⌝ }
+    ensures { λ r. ⌜
+        TreeOutcome (now (g .entry)) (now (line .entry)) category start end
+        (now (words .entry)) (now (depths .entry)) (now (out .entry)) r
+        (now (words .exit)) (now (depths .exit)) (now (out .exit))
+        ⌝ }
 {
     let asked = Asked::Span {
         category,
