@@ -15,7 +15,7 @@ use Rattle.filling.specs.Filled.{WorkFilled}
 use Rattle.tree.specs.declared.TreeAnswer.{TreeAnswer}
 use Rattle.tree.specs.declared.TreeAnswer.the-variants as tree
 use Rattle.tree.specs.Bytes.{bytes, wrote}
-use Rattle.tree.specs.Kept.{Kept}
+use Rattle.tree.specs.Kept.{Kept, Charted}
 use Rattle.tree.specs.Checked.{checkedOf}
 use Rattle.tree.specs.Shows.{Shows}
 use Rattle.tree.specs.Shows as shows
@@ -36,9 +36,12 @@ module _ (g line : List ℕ) (A i j : ℕ) (words depths out : List ℕ) where
     work-is : WorkFilled (grammarGiven g) line words depths words′ depths′
     work-is = rw (given-is g s (a .passes .read)) filled
 
-    -- the filled memory keeps the depths
+    -- the filled memory keeps the depths and the chart
     pub filled-kept : Kept (grammarGiven g) line depths′
     filled-kept = work-is .depth
+
+    pub filled-charted : Charted (grammarGiven g) line words′
+    filled-charted = work-is .word
 
     pub tree-shown : (answer : TreeAnswer) (out′ : List ℕ) → Shows (grammarGiven g) line A i j out answer out′ → TreeOutcome g line A i j words depths out answer words′ depths′ out′
     tree-shown answer out′ (shows.noTree {refusal} e q o) =

@@ -8,7 +8,7 @@ use Rattle.checks.specs.Memory.{depthsSize}
 use Rattle.checks.proofs.Laws.{work-passed}
 use Rattle.chart.proofs.CheckLaws.{sections, line-is}
 use Rattle.tree.proofs.CheckLaws.{AllPassed, checked-accepted, span-passed}
-use Rattle.tree.proofs.OutcomeLaws.{tree-turned, filled-kept, tree-shown}
+use Rattle.tree.proofs.OutcomeLaws.{tree-turned, filled-kept, filled-charted, tree-shown}
 use borrow.Author.Needs.{needs}
 use Rattle.tree.proofs.tree.Statement.{statement}
 use Rattle.tree.proofs.tree.Tie as tie
@@ -43,12 +43,14 @@ fill-requires c κs =
 
 show-requires : tie.Need-show-requires
 show-requires c κs =
-    let a = passed (c .before .before .before .before .before .before .before .before .before .before) in
-    let e = c .before .before .before .before .before .before .before .before .before .before .before .before .before .before .before .before .before .before .args in
+    let f = c .before .before .before .before .before .before .before in
+    let p = f .before .before .before .before in
+    let a = passed p in
+    let e = p .before .before .before .before .before .before .before .before .args in
     let q = span-passed _ _ _ _ _ (a .span) in
-    let room : depthsSize (c .before .before .before .before .before .before .before .before .before .before .s .given .0 .0 .categories) (length (now (e .line))) ≤ length (now (e .depths)) = work-passed _ _ _ _ (a .work) .1 in
-    let filled = c .before .before .before .before .before .before .fill .ensures .work in
-    (a .passes .read, line-is _ _ _ (a .passes) .short, q .0, q .1, q .2, omega (arith, room, filled .depths-long), filled-kept _ _ _ _ _ _ _ _ _ a filled)
+    let filled = f .fill .ensures .work in
+    let m = work-passed _ _ _ _ (a .work) in
+    (a .passes .read, line-is _ _ _ (a .passes) .short, q .0, q .1, q .2, rw (filled .depths-long) (m .1), filled-kept _ _ _ _ _ _ _ _ _ a filled, rw (filled .words-long) (m .0), filled-charted _ _ _ _ _ _ _ _ _ a filled)
 
 same-length : tie.Need-same-length
 same-length c = search needs
@@ -60,7 +62,7 @@ same-length-3 : tie.Need-same-length-3
 same-length-3 c = search needs
 
 returns-2 : tie.Need-returns-2
-returns-2 c = tree-shown _ _ _ _ _ _ _ _ _ (passed (c .before .before .before .before .before .before .before .before .before .before .before .before .before)) (c .before .before .before .before .before .before .before .before .before .fill .ensures .work) _ _ (c .before .before .show .ensures)
+returns-2 c = tree-shown _ _ _ _ _ _ _ _ _ (passed (c .before .before .before .before .before .before .before .before .before .before .before .before .before .before)) (c .before .before .before .before .before .before .before .before .before .before .fill .ensures .work) _ _ (c .before .before .show .ensures)
 
 pub tree-spec : {M : Type 1} → statement M
 tree-spec =
