@@ -4,7 +4,7 @@ use mathlib.Core.Path.{_≡_}
 use mathlib.Core.List.{List}
 use lib.ListN.{length}
 use Rattle.derivation.specs.Grammar.{Proper}
-use Rattle.checks.specs.Memory.{depthsSize}
+use Rattle.checks.specs.Memory.{chartSize, depthsSize}
 use Rattle.grammar.specs.declared.reading.Sections.{Sections}
 use Rattle.grammar.specs.declared.reading.Reading.the-variants.{Accepted}
 use Rattle.grammar.specs.Reading.{readOf}
@@ -13,7 +13,7 @@ use Rattle.grammar.specs.Given.{grammarGiven}
 use Rattle.grammar.specs.Starts.{Starts}
 use Rattle.grammar.proofs.Accepted.{accepted, whole}
 use Rattle.grammar.proofs.Encoded.{category-count, rule-count, sections-within, sections-proper}
-use Rattle.tree.specs.Kept.{Kept}
+use Rattle.tree.specs.Sets.{Work}
 use Rattle.tree.specs.Searchable.{Searchable}
 
 -- the grammar that accepted bytes stand for
@@ -27,20 +27,21 @@ module _ (g : List ℕ) (s : Sections) (read : readOf g ≡ Accepted s) where
   pub given-categories : (A : ℕ) → A < s .categories → A < length (grammarGiven g .categories)
   given-categories A l = rw (given-is, category-count g s (accepted g s read .0)) l
 
--- accepted bytes, where their rules stand, and memory that keeps the depths are ready to be searched
-pub searchable : (g : List ℕ) (s : Sections) (starts line depths : List ℕ) → readOf g ≡ Accepted s → Starts g s starts → length line ≤ 63 →
-    depthsSize (s .categories) (length line) ≤ length depths → Kept (grammarGiven g) line depths → Searchable (grammarGiven g) g starts (s .rules) line depths
-searchable g s starts line depths read found short room kept =
+-- accepted bytes, where their rules stand, and memory that keeps the chart and the depths are ready to be searched
+pub searchable : (g : List ℕ) (s : Sections) (starts line words depths : List ℕ) → readOf g ≡ Accepted s → Starts g s starts → length line ≤ 63 →
+    chartSize (s .categories) (length line) ≤ length words → depthsSize (s .categories) (length line) ≤ length depths → Work (grammarGiven g) line words depths →
+    Searchable (grammarGiven g) g starts line words depths
+searchable g s starts line words depths read found short rows room work =
     let sec = accepted g s read .0 in
     let same = given-is g s read in
     rw same (record {
       proper = sections-proper g s sec;
-      count = rw (rule-count g s sec);
-      few = whole g s sec .rules-high;
-      stands = λ p l. found .found p l .stands;
-      is = λ p l. found .found p l .is;
-      symbols = λ p l d k. sections-within g s sec .each p (rw (rule-count g s sec) l) .symbols d k .category;
+      few = rw (rule-count g s sec) (whole g s sec .rules-high);
+      stands = λ p l. found .found p (rw (rule-count g s sec) at l) .stands;
+      is = λ p l. found .found p (rw (rule-count g s sec) at l) .is;
+      symbols = λ p l d k. sections-within g s sec .each p l .symbols d k .category;
       short = short;
-      kept = rw same at kept;
+      work = rw same at work;
+      rows = rw (category-count g s sec) rows;
       room = rw (category-count g s sec) room;
     })

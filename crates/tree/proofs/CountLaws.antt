@@ -7,12 +7,11 @@ use native.Mathlib.Omega.{arith}
 use lib.ListN.{length, getD, drop, length-append, drop-of-length-le}
 use borrow.Author.Tests.{lt-ltb, le-ltb}
 use Rattle.derivation.specs.Grammar.{Grammar}
-use Rattle.derivation.specs.Within.{ChildrenWithin}
 use Rattle.derivation.specs.Node.{ruleNode}
 use Rattle.derivation.specs.Table.{depthOf}
 use Rattle.derivation.specs.Shown.{chosenRow, shown}
 use Rattle.tree.specs.Counted.{Counting, Counted}
-use Rattle.tree.proofs.SearchLaws.{NextChild}
+use Rattle.tree.proofs.TurnLaws.{NextChild}
 
 counting-start : (limit rest total : ℕ) → total ≡ suc rest → Counting limit 1 rest total
 counting-start limit rest total e = record { most = omega arith; exact = λ l. omega arith; over = λ l. omega arith }
@@ -36,14 +35,11 @@ counting-over l x = record { most = x .most; exact = λ k. absurd (omega arith);
 -- the first d children are counted
 pub record CountTurn (G : Grammar) (line : List ℕ) (h : ℕ) (symbols : List ℕ) (end limit total d m count : ℕ) : Type 0 where
   pub low : d ≤ length symbols
-  pub inside : m ≤ length line
-  pub left : ChildrenWithin G line h (drop d symbols) m end
   pub counting : Counting limit count (length (chosenRow G line (depthOf G line) (shown G line) h (drop d symbols) m end)) total
 
 module _ (G : Grammar) (line : List ℕ) (h : ℕ) (symbols : List ℕ) (end limit total : ℕ) where
-  pub count-begin : (p i : ℕ) → i ≤ length line → ChildrenWithin G line h symbols i end →
-      total ≡ length (ruleNode p i end ∷ chosenRow G line (depthOf G line) (shown G line) h symbols i end) → CountTurn G line h symbols end limit total 0 i 1
-  count-begin p i l v e = record { low = omega arith; inside = l; left = v; counting = counting-start limit _ total e }
+  pub count-begin : (p i m : ℕ) → total ≡ length (ruleNode p i end ∷ chosenRow G line (depthOf G line) (shown G line) h symbols m end) → CountTurn G line h symbols end limit total 0 m 1
+  count-begin p i m e = record { low = omega arith; counting = counting-start limit _ total e }
 
   module _ (d m x count : ℕ) (l : d < length symbols) (c : count ≤ limit) (n : NextChild G line h symbols end d m x) (turn : CountTurn G line h symbols end limit total d m count) where
     row-left : ℕ
@@ -55,8 +51,6 @@ module _ (G : Grammar) (line : List ℕ) (h : ℕ) (symbols : List ℕ) (end lim
     unfolding row-left
     child-counted size r e y = rw add-one (record {
       low = l;
-      inside = n .inside;
-      left = n .rest;
       counting = counting-more limit count size _ total r c (rw e at (turn .counting)) y;
     })
 

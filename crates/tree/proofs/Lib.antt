@@ -1,8 +1,8 @@
 pub mod ByteLaws
 pub mod DivisionLaws
+pub mod SetLaws
 pub mod NodeLaws
 pub mod SearchLaws
-pub mod RuleLaws
 pub mod TurnLaws
 pub mod CountLaws
 pub mod WriteLaws

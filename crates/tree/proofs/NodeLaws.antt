@@ -23,26 +23,9 @@ use Rattle.derivation.proofs.Prefix.{rule-within, within-then, within-category}
 use Rattle.derivation.proofs.Table.{depthOf-is}
 use Rattle.derivation.proofs.Shown.{First, first-below, below-within}
 
--- the first that passes, and none
-pub first-from : (test : ℕ → Bool) (n r : ℕ) → r < n → test r ≡ true → ((q : ℕ) → q < r → test q ≡ false) → firstFrom test 0 n ≡ r
-first-from test n r l e none =
-    let f = first-below test n r l e in
-    let low : firstFrom test 0 n ≤ r = f .least r zero-le e in
-    let high : firstFrom test 0 n < r → ⊥ = λ k. true≢false (sym (f .passes) ∙ none _ k) in
-    omega arith
-
-first-past : (test : ℕ → Bool) (i n : ℕ) → ((q : ℕ) → i ≤ q → q < i + n → test q ≡ false) → firstFrom test i n ≡ i + n
-unfolding firstFrom
-first-past test i zero none = sym (add-zero i)
-first-past test i (suc n) none =
-    rw (none i (omega arith) (omega arith)) (first-past test (suc i) n (λ q a b. none q (omega arith) (omega arith)) ∙ (suc-add i n ∙ sym (add-suc i n)))
-
-pub first-none : (test : ℕ → Bool) (n : ℕ) → ((q : ℕ) → q < n → test q ≡ false) → firstFrom test 0 n ≡ n
-first-none test n none = first-past test 0 n (λ q a b. none q (omega arith)) ∙ omega arith
-
 -- rule p of A serves below depth h + 1; and so for a first end m of symbols c ∷ s
 module _ (G : Grammar) (line : List ℕ) where
-  unfoldable pub ruleTest : ℕ → ℕ → ℕ → ℕ → ℕ → Bool
+  unfoldable ruleTest : ℕ → ℕ → ℕ → ℕ → ℕ → Bool
   ruleTest h A i j p = eqb (ruleAt G p .left) A && children line (below G line (depthOf G line) h) (ruleAt G p .right) i j
 
   unfoldable pub endTest : ℕ → ℕ → List ℕ → ℕ → ℕ → ℕ → Bool
@@ -50,26 +33,25 @@ module _ (G : Grammar) (line : List ℕ) where
 
 module _ (G : Grammar) (line : List ℕ) (proper : Proper G) where
   -- what the tests tell
-  pub rule-passes : (h A i j p : ℕ) → ruleAt G p .left ≡ A → ChildrenWithin G line h (ruleAt G p .right) i j → ruleTest G line h A i j p ≡ true
+  rule-passes : (h A i j p : ℕ) → ruleAt G p .left ≡ A → ChildrenWithin G line h (ruleAt G p .right) i j → ruleTest G line h A i j p ≡ true
   unfolding ruleTest
   rule-passes h A i j p l v = and-both (eq-eqb (ruleAt G p .left) A l) (rw (below-within G line proper h) (children-iff G line h (ruleAt G p .right) i j .1 v))
 
-  pub rule-tells : (h A i j p : ℕ) → ruleTest G line h A i j p ≡ true → (ruleAt G p .left ≡ A) × ChildrenWithin G line h (ruleAt G p .right) i j
+  rule-tells : (h A i j p : ℕ) → ruleTest G line h A i j p ≡ true → (ruleAt G p .left ≡ A) × ChildrenWithin G line h (ruleAt G p .right) i j
   unfolding ruleTest
   rule-tells h A i j p e =
       let a = and-parts (eqb (ruleAt G p .left) A) (children line (below G line (depthOf G line) h) (ruleAt G p .right) i j) e in
       (eqb-true (ruleAt G p .left) A (a .0), children-iff G line h (ruleAt G p .right) i j .0 (rw (below-within G line proper h) at (a .1)))
 
-  pub rule-fails : (h A i j p : ℕ) → (ruleAt G p .left ≡ A → ChildrenWithin G line h (ruleAt G p .right) i j → ⊥) → ruleTest G line h A i j p ≡ false
-  rule-fails h A i j p n = go (ruleTest G line h A i j p) refl
-    where
-      go : (x : Bool) → ruleTest G line h A i j p ≡ x → x ≡ false
-      go true e = let r = rule-tells h A i j p e in absurd (n (r .0) (r .1))
-      go false e = refl
-
-  pub rule-is-first : (h A i j : ℕ) → chosenRule G line (depthOf G line) h A i j ≡ firstFrom (ruleTest G line h A i j) 0 (length (G .rules))
+  rule-is-first : (h A i j : ℕ) → chosenRule G line (depthOf G line) h A i j ≡ firstFrom (ruleTest G line h A i j) 0 (length (G .rules))
   unfolding chosenRule ruleTest
   rule-is-first h A i j = refl
+
+  -- it is at most any other that serves
+  pub rule-least : (h A i j q : ℕ) → q < length (G .rules) → ruleAt G q .left ≡ A → ChildrenWithin G line h (ruleAt G q .right) i j → chosenRule G line (depthOf G line) h A i j ≤ q
+  rule-least h A i j q l e v =
+      let t = rule-passes h A i j q e v in
+      rw (rule-is-first h A i j) (first-below (ruleTest G line h A i j) (length (G .rules)) q l t .least q zero-le t)
 
   pub end-passes : (h c : ℕ) (s : List ℕ) (i j m : ℕ) → ChildWithin G line h c i m → ChildrenWithin G line h s m j → endTest G line h c s i j m ≡ true
   unfolding endTest
@@ -92,12 +74,12 @@ module _ (G : Grammar) (line : List ℕ) (proper : Proper G) where
   pub node-rule : (A i j : ℕ) → 0 < depthOf G line A i j →
       let h = depthOf G line A i j - 1 in
       let p = chosenRule G line (depthOf G line) h A i j in
-      (p < length (G .rules)) × ChildrenWithin G line h (ruleAt G p .right) i j
+      (p < length (G .rules)) × (ruleAt G p .left ≡ A) × ChildrenWithin G line h (ruleAt G p .right) i j
   node-rule A i j pos = go (depthOf G line A i j) (depthOf-is G line proper A i j) pos
     where
       go : (d : ℕ) → DepthIs G line A i j d → 0 < d →
           let p = chosenRule G line (depthOf G line) (d - 1) A i j in
-          (p < length (G .rules)) × ChildrenWithin G line (d - 1) (ruleAt G p .right) i j
+          (p < length (G .rules)) × (ruleAt G p .left ≡ A) × ChildrenWithin G line (d - 1) (ruleAt G p .right) i j
       go zero x l = absurd (omega arith)
       go (suc h) (deep x) l =
           let e : suc h - 1 ≡ h = omega arith in
@@ -105,7 +87,8 @@ module _ (G : Grammar) (line : List ℕ) (proper : Proper G) where
           let is = r .2 in
           let t : ruleTest G line h A i j (r .0) ≡ true = rule-passes h A i j (r .0) (is .from) (rw (is .to) (r .3)) in
           let f = first-below (ruleTest G line h A i j) (length (G .rules)) (r .0) (is .below) t in
-          rw (e, rule-is-first h A i j) (omega (arith, f .least (r .0) zero-le t, is .below), rule-tells h A i j _ (f .passes) .1)
+          let tells = rule-tells h A i j _ (f .passes) in
+          rw (e, rule-is-first h A i j) (omega (arith, f .least (r .0) zero-le t, is .below), tells .0, tells .1)
 
   -- a category child is a fact whose depth is at most h
   pub child-depth : (h c m e : ℕ) → 128 ≤ c → ChildWithin G line h c m e → (0 < depthOf G line (c - 128) m e) × (depthOf G line (c - 128) m e ≤ h)
@@ -139,7 +122,7 @@ module _ (G : Grammar) (line : List ℕ) (proper : Proper G) where
       let p = chosenRule G line (depthOf G line) h A i j in
       let q : depthOf G line A i j - 1 ≡ h = omega arith in
       ap (λ (nodes : List Node). ruleNode p i j ∷ nodes)
-      (row-same (chosen G line (depthOf G line) k) (chosen G line (depthOf G line) l) h (λ A i j z y. enough k l A i j z (omega arith) (omega arith)) (ruleAt G p .right) i j (rw q at (node-rule A i j pos) .1))
+      (row-same (chosen G line (depthOf G line) k) (chosen G line (depthOf G line) l) h (λ A i j z y. enough k l A i j z (omega arith) (omega arith)) (ruleAt G p .right) i j (rw q at (node-rule A i j pos) .2))
 
   -- the nodes of a fact: the use of its rule, then the nodes of its children
   pub shown-node : (A i j : ℕ) → 0 < depthOf G line A i j →
@@ -160,4 +143,4 @@ module _ (G : Grammar) (line : List ℕ) (proper : Proper G) where
           let k : depthOf G line A i j - 1 ≡ h = omega arith in
           let p = chosenRule G line (depthOf G line) h A i j in
           rw (q, r) (ap (λ (nodes : List Node). ruleNode p i j ∷ nodes)
-          (row-same (chosen G line (depthOf G line) h) (shown G line) h (λ A i j z y. enough h (depthOf G line A i j) A i j z y (omega arith)) (ruleAt G p .right) i j (rw k at (node-rule A i j (omega arith)) .1)))
+          (row-same (chosen G line (depthOf G line) h) (shown G line) h (λ A i j z y. enough h (depthOf G line A i j) A i j z y (omega arith)) (ruleAt G p .right) i j (rw k at (node-rule A i j (omega arith)) .2)))

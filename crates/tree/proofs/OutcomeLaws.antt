@@ -18,7 +18,7 @@ use Rattle.tree.specs.declared.TreeAnswer.{TreeAnswer}
 use Rattle.tree.specs.declared.TreeAnswer.the-variants as tree
 use Rattle.tree.specs.Bytes.{bytes, wrote}
 use Rattle.chart.proofs.CheckLaws.{Passes, grammar-is, early-passed}
-use Rattle.tree.specs.Kept.{Kept}
+use Rattle.tree.specs.Kept.{Kept, Charted}
 use Rattle.tree.specs.Checks.{treeFact, treeRoom, treeChecks}
 use Rattle.tree.specs.Shows.{Shows}
 use Rattle.tree.specs.Shows as shows
@@ -30,9 +30,13 @@ wrote-first : (row written : List ℕ) → wrote row 0 written ≡ written ++ dr
 unfolding wrote
 wrote-first row written = rw (zero-add (length written))
 
--- filled memory keeps the depths
-pub filled-kept : {g line : List ℕ} {asked : Asked} {n m : ℕ} {s : Sections} → Passes g line asked n m s → {words depths words′ depths′ : List ℕ} → WorkFilled (grammarOf g s) line words depths words′ depths′ → Kept (grammarGiven g) line depths′
-filled-kept passes filled = rw (grammar-is passes) (filled .depth)
+-- filled memory keeps the depths and the chart
+module _ {g line : List ℕ} {asked : Asked} {n m : ℕ} {s : Sections} (passes : Passes g line asked n m s) {words depths words′ depths′ : List ℕ} (filled : WorkFilled (grammarOf g s) line words depths words′ depths′) where
+  pub filled-kept : Kept (grammarGiven g) line depths′
+  filled-kept = rw (grammar-is passes) (filled .depth)
+
+  pub filled-charted : Charted (grammarGiven g) line words′
+  filled-charted = rw (grammar-is passes) (filled .word)
 
 module _ (g line : List ℕ) (A i j : ℕ) (words depths out : List ℕ) where
   pub tree-turned : (refusal : Refusal) → early (treeChecks g line A i j words depths out) ≡ check.Refused refusal → TreeOutcome g line A i j words depths out (tree.Refused refusal) words depths out

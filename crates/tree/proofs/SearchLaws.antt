@@ -1,158 +1,177 @@
--- The sets from the right are the positions from which the later symbols derive; what a division and a first end then tell.
-use Prim.Native.Nat.{ℕ, zero, suc, _+_, _-_, _≤_, _<_, zero-le, suc-le-suc}
+-- The search at a node: no rule before p serves; of rule p, the ends of the first d symbols are chosen.
+use Prim.Native.Nat.{ℕ, zero, suc, _+_, _-_, _≤_, _<_, zero-le}
 use mathlib.Core.Path.{_≡_, refl, sym, _∙_, ap, subst}
-use mathlib.Core.Logic.{_↔_}
-use mathlib.Core.Bool.{true, false, cond, true≢false}
-use mathlib.Core.List.{List, [], _∷_, _++_}
-use native.Mathlib.Nat.{add-zero}
+use mathlib.Core.Logic.{_↔_, ⊎-elim}
+use mathlib.Core.Bool.{true, false}
+use mathlib.Core.List.{List, [], _∷_, replicate}
+use native.Mathlib.Nat.{eq-or-lt-of-le, le-of-suc-le-suc, eq-zero-or-pos}
+use native.Mathlib.Numerals.{add-one}
 use native.Mathlib.Decide.{decLt}
 use native.Mathlib.Omega.{arith}
-use lib.ListN.{length, getD, drop}
-use lib.Seq.{drop-cons, drop-length}
-use lib.Dec.{eqb, ltb}
-use borrow.Author.Tests.{lt-leb, eq-eqb, ne-eqb, eqb-true}
-use Rattle.positions.specs.Member.{digit, Member}
-use Rattle.derivation.specs.Grammar.{Grammar, Proper}
-use Rattle.derivation.specs.Tree.{Children, stop}
-use Rattle.derivation.specs.Within.{ChildWithin, ChildrenWithin}
-use Rattle.derivation.specs.Round.{child, within}
+use lib.ListN.{length, getD, drop, set, length-set}
+use lib.Seq.{drop-cons, drop-length, getD-set-same, getD-set-other}
+use Rattle.positions.specs.Member.{Member}
+use Rattle.derivation.specs.Grammar.{Rule, Grammar, Proper, ruleAt}
+use Rattle.derivation.specs.Within.{ChildrenWithin}
 use Rattle.derivation.specs.Table.{depthOf}
-use Rattle.derivation.specs.Node.{Node, tokenNode}
-use Rattle.derivation.specs.Shown.{chosenEnd, chosenRow}
-use Rattle.derivation.proofs.Tests.{and-parts, and-both}
-use Rattle.derivation.proofs.Within.{child-iff, child-inside}
-use Rattle.derivation.proofs.Prefix.{empty-within, then-within, within-then}
-use Rattle.derivation.proofs.Table.{seen-depth}
-use Rattle.checks.specs.Memory.{depthsSize}
-use Rattle.tree.specs.Kept.{keptBelow, Fits, Kept}
-use Rattle.tree.specs.Sets.{leads, FirstEnd, Sets, division, pastFirst}
-use Rattle.tree.specs.Searchable.{CategoryKnown}
-use Rattle.tree.proofs.DivisionLaws.{depths-inside, of-category}
-use Rattle.tree.proofs.NodeLaws.{end-passes, end-tells, chosen-end}
+use Rattle.derivation.specs.Shown.{chosenRule, chosenEnd}
+use Rattle.derivation.proofs.Within.{child-inside, children-inside}
+use Rattle.derivation.proofs.Prefix.{empty-within, then-within}
+use Rattle.grammar.specs.Value.{standing}
+use Rattle.grammar.proofs.Accepted.{length-is}
+use Rattle.tree.specs.Kept.{Fits}
+use Rattle.tree.specs.Sets.{CategoryKnown, Leads, FirstThat}
+use Rattle.tree.specs.Searchable.{Searchable, NodeAt}
+use Rattle.tree.specs.Searched.{Division, Searched}
+use Rattle.tree.proofs.DivisionLaws.{rows-inside, depths-inside}
+use Rattle.tree.proofs.NodeLaws.{rule-least, end-passes, end-tells, chosen-end, node-rule}
 
--- a category's depths are in the memory of all categories
-pub known-fits : (G : Grammar) (n numbers c : ℕ) → depthsSize (length (G .categories)) n ≤ numbers → CategoryKnown G c → Fits n numbers c
-known-fits G n numbers c room known k = depths-inside _ n numbers (c - 128) (known k) room
+module _ (G : Grammar) (g starts line words depths : List ℕ) (s : Searchable G g starts line words depths) where
+  -- the symbols of rule p, where they stand
+  module _ (p : ℕ) (l : p < length (G .rules)) where
+    abbrev right : List ℕ
+    right = standing g (getD starts p 0) .right
 
--- no symbols derive only nothing
-none-within : {G : Grammar} {line : List ℕ} {h i j : ℕ} → ChildrenWithin G line h [] i j → i ≡ j
-none-within v = go (v .children)
-  where
-    go : {G : Grammar} {line : List ℕ} {i j : ℕ} → Children G line [] i j → i ≡ j
-    go (stop l) = refl
+    pub right-is : right ≡ ruleAt G p .right
+    right-is = ap (λ (r : Rule). r .right) (s .is p l)
 
--- from m, symbol d ends at e; what is shown of the symbols from d on is that child's nodes and those of the symbols after it
-pub record NextChild (G : Grammar) (line : List ℕ) (h : ℕ) (symbols : List ℕ) (end d m e : ℕ) : Type 0 where
-  pub inside : e ≤ length line
-  pub child : ChildWithin G line h (getD symbols d 0) m e
-  pub rest : ChildrenWithin G line h (drop (suc d) symbols) e end
-  pub row : (sub : ℕ → ℕ → ℕ → List Node) →
-      chosenRow G line (depthOf G line) sub h (drop d symbols) m end
-      ≡ cond (ltb (getD symbols d 0) 128) (tokenNode (getD symbols d 0) m e ∷ []) (sub (getD symbols d 0 - 128) m e) ++ chosenRow G line (depthOf G line) sub h (drop (suc d) symbols) e end
+    pub symbols-few : length right ≤ 8
+    symbols-few = let k = s .stands p l in rw (← length-is g (getD starts p 0) k) (k .long)
 
-module _ (G : Grammar) (line depths : List ℕ) (proper : Proper G) (kept : Kept G line depths) (h : ℕ) where
-  child-kept : (c m e : ℕ) → CategoryKnown G c → m ≤ length line → e ≤ length line →
-      child line (keptBelow (length line) depths h) c m e ≡ child line (within G line h) c m e
-  unfolding child
-  child-kept c m e known a b = go (decLt c 128)
-    where
-      go : Dec (c < 128) → child line (keptBelow (length line) depths h) c m e ≡ child line (within G line h) c m e
-      go (yes l) = rw (lt-leb 128 c l)
-      go (no n) =
-          let k : 128 ≤ c = omega arith in
-          of-category line (keptBelow (length line) depths h) c m e k ∙ seen-depth G line h (kept (c - 128) m e (known k) a b) ∙ sym (of-category line (within G line h) c m e k)
+    pub symbols-known : (d : ℕ) → d < length right → CategoryKnown G (getD right d 0)
+    symbols-known d k = rw right-is (s .symbols p l d (rw right-is at k))
 
-  -- what the test of a symbol and a set tells
-  leads-tells : (c set m e : ℕ) → CategoryKnown G c → m ≤ length line → e ≤ length line →
-      (leads line (keptBelow (length line) depths h) c set m e ≡ true) ↔ (Member set e × ChildWithin G line h c m e)
-  unfolding leads
-  leads-tells c set m e known a b = (
-    λ x. let p = and-parts (eqb (digit set e) 1) (child line (keptBelow (length line) depths h) c m e) x in (eqb-true (digit set e) 1 (p .0), child-iff G line h c m e .0 (sym (child-kept c m e known a b) ∙ p .1)),
-    λ p. and-both (eq-eqb (digit set e) 1 (p .0)) (child-kept c m e known a b ∙ child-iff G line h c m e .1 (p .1)),
-  )
+    pub symbols-fit : (d : ℕ) → d < length right → Fits (length line) (length words) (length depths) (getD right d 0)
+    symbols-fit d k c = let a = symbols-known d k c in (rows-inside _ _ _ _ a (s .rows), depths-inside _ _ _ _ a (s .room))
 
-  module _ (symbols : List ℕ) (end : ℕ) (sets : List ℕ) (known : (d : ℕ) → d < length symbols → CategoryKnown G (getD symbols d 0)) (inside : end ≤ length line)
-      (made : Sets symbols line (keptBelow (length line) depths h) end sets) where
-    -- set d has the positions from which the symbols from d on reach the end
-    sets-reach : (k d : ℕ) → 0 < d → d + k ≡ length symbols → (m : ℕ) → Member (getD sets d 0) m ↔ ChildrenWithin G line h (drop d symbols) m end
-    sets-reach zero d pos e m =
-        let q : d ≡ length symbols = sym (add-zero d) ∙ e in
-        rw (q, drop-length symbols) (
-          λ x. subst (λ (i : ℕ). ChildrenWithin G line h [] i end) (sym (made .last m .0 x)) (empty-within inside),
-          λ v. made .last m .1 (none-within v),
-        )
-    sets-reach (suc k) d pos e m =
-        let l : d < length symbols = omega arith in
-        let ih = sets-reach k (suc d) (omega arith) (omega arith) in
-        let c = getD symbols d 0 in
-        let set = getD sets (suc d) 0 in
-        rw (drop-cons symbols d 0 l) (
-          λ x. let r = made .each d pos l m .0 x in
-              let t = leads-tells c set m (r .1 .0) (known d l) (r .0) (r .1 .2) .0 (r .1 .3) in
-              then-within (t .1) (ih (r .1 .0) .0 (t .0)),
-          λ v. let a = within-then v in
-              let i = child-inside (a .1 .child) in
-              let z : m ≤ length line = omega (arith, i .rises, i .ends) in
-              made .each d pos l m .1 (z, (a .0, i .rises, i .ends, leads-tells c set m (a .0) (known d l) z (i .ends) .1 (ih (a .0) .1 (a .2), a .1))),
-        )
+  module _ (A i j depth : ℕ) (a : NodeAt G line A i j depth) where
+    -- the rule that is chosen
+    abbrev chosen : ℕ
+    chosen = chosenRule G line (depthOf G line) (depth - 1) A i j
 
-    set-after : (d : ℕ) → d < length symbols → (m : ℕ) → Member (getD sets (suc d) 0) m ↔ ChildrenWithin G line h (drop (suc d) symbols) m end
-    set-after d l = sets-reach (length symbols - suc d) (suc d) (omega arith) (omega arith)
+    pub chosen-serves : (chosen < length (G .rules)) × (ruleAt G chosen .left ≡ A) × ChildrenWithin G line (depth - 1) (ruleAt G chosen .right) i j
+    chosen-serves = rw (a .depth-is) (node-rule G line (s .proper) A i j (omega (arith, a .fact, a .depth-is)))
 
-    -- the first symbol and those after it
-    first-then : 0 < length symbols → symbols ≡ getD symbols 0 0 ∷ drop 1 symbols
-    first-then l = drop-cons symbols 0 0 l
+    pub node-rises : i ≤ j
+    node-rises = children-inside (chosen-serves .2 .children) .rises
 
-    -- a division that serves
-    pub division-serves : (i m : ℕ) → i ≤ length line → m ≤ length line → division symbols line (keptBelow (length line) depths h) sets i end m ≡ true → ChildrenWithin G line h symbols i end
-    division-serves i m a b x = go symbols refl
+    module _ (p : ℕ) (low : p ≤ chosen) where
+      pub rule-inside : p < length (G .rules)
+      rule-inside = omega (arith, low, chosen-serves .0)
+
+      module _ (symbols : List ℕ) (e : symbols ≡ standing g (getD starts p 0) .right) where
+        symbols-are : symbols ≡ ruleAt G p .right
+        symbols-are = e ∙ right-is p rule-inside
+
+        left-is : standing g (getD starts p 0) .left ≡ ruleAt G p .left
+        left-is = ap (λ (r : Rule). r .left) (s .is p rule-inside)
+
+        -- where rule p does not serve, the chosen rule is a later one
+        pub rule-after : (standing g (getD starts p 0) .left ≡ A → ChildrenWithin G line (depth - 1) symbols i j → ⊥) → p + 1 ≤ chosen
+        rule-after n = ⊎-elim
+            (λ (q : p ≡ chosen). let c = chosen-serves in absurd (n (left-is ∙ rw q (c .1)) (rw (symbols-are, q) (c .2))))
+            (λ l. rw add-one l)
+            (eq-or-lt-of-le low)
+
+        -- where it serves, it is the chosen one
+        pub rule-found : (ends : List ℕ) → standing g (getD starts p 0) .left ≡ A → ChildrenWithin G line (depth - 1) symbols i j → Division G line (depth - 1) symbols i j ends →
+            Searched G line A i j depth (record { rule = p; ends = ends })
+        rule-found ends l v x =
+            let least = rule-least G line (s .proper) (depth - 1) A i j p rule-inside (sym left-is ∙ l) (rw symbols-are at v) in
+            record { rule = omega (arith, low, least); division = rw symbols-are at x }
+
+-- of symbols, the ends of the first d are chosen, the last of them m; 64 where there is none
+pub record SearchTurn (G : Grammar) (line : List ℕ) (h : ℕ) (symbols : List ℕ) (i j : ℕ) (ends : List ℕ) (m d : ℕ) : Type 0 where
+  pub low : d ≤ length symbols
+  pub after : i ≤ m
+  pub long : length ends ≡ 9
+  pub first : getD ends 0 0 ≡ i
+  pub here : getD ends d 0 ≡ m
+  pub begun : 0 < d → m < 64 → ChildrenWithin G line h symbols i j
+  pub left : ChildrenWithin G line h symbols i j → ChildrenWithin G line h (drop d symbols) m j
+  pub each :
+      ChildrenWithin G line h symbols i j →
+      (x : ℕ) → x < d → getD ends (suc x) 0 ≡ chosenEnd G line (depthOf G line) h (getD symbols x 0) (drop (suc x) symbols) (getD ends x 0) j
+
+module _ (G : Grammar) (line : List ℕ) (proper : Proper G) (h : ℕ) (symbols : List ℕ) (i j : ℕ) (short : length line ≤ 63) (b : j ≤ length line) where
+  pub turn-begin : SearchTurn G line h symbols i j (replicate 9 i) i 0
+  turn-begin = record {
+    low = omega arith;
+    after = omega arith;
+    long = refl;
+    first = refl;
+    here = refl;
+    begun = λ l. absurd (omega arith);
+    left = λ v. v;
+    each = λ v x l. absurd (omega arith);
+  }
+
+  module _ (ends : List ℕ) (m d : ℕ) (turn : SearchTurn G line h symbols i j ends m d) where
+    -- an end that was found is on the line
+    pub turn-inside : i ≤ length line → m < 64 → m ≤ length line
+    turn-inside a l = ⊎-elim
+        (λ (q : d ≡ 0). omega (arith, turn .first, rw q at (turn .here)))
+        (λ k. let r = children-inside (turn .left (turn .begun k l) .children) in omega (arith, r .rises))
+        (eq-zero-or-pos d)
+
+    -- where none was found, the rule does not serve
+    pub turn-fails : 64 ≤ m → ChildrenWithin G line h symbols i j → ⊥
+    turn-fails l v = omega (arith, children-inside (turn .left v .children) .rises)
+
+    -- where all were found, it does, with these ends
+    pub turn-whole : d ≡ length symbols → m < 64 → (length symbols ≡ 0 → i ≡ j) → ChildrenWithin G line h symbols i j × Division G line h symbols i j ends
+    turn-whole q l empty =
+        let v : ChildrenWithin G line h symbols i j = ⊎-elim (λ (z : length symbols ≡ 0). nothing symbols z (empty z)) (λ k. turn .begun (rw q k) l) (eq-zero-or-pos (length symbols)) in
+        (v, record { first = turn .first; each = λ x k. turn .each v x (rw q k) })
       where
-        go : (s : List ℕ) → symbols ≡ s → ChildrenWithin G line h symbols i end
-        go [] e =
-            let t = rw (e) at x in
-            let q : i ≡ end = eqb-true i end t in
-            rw (e, q) (empty-within inside)
-        go (c ∷ s) e =
-            let l : 0 < length symbols = rw e (suc-le-suc zero-le) in
-            let t = leads-tells (getD symbols 0 0) (getD sets 1 0) i m (known 0 l) a b .0 (rw (ne-eqb (length symbols) 0 (λ q. omega arith)) at x) in
-            subst (λ (s : List ℕ). ChildrenWithin G line h s i end) (sym (first-then l)) (then-within (t .1) (set-after 0 l m .0 (t .0)))
+        nothing : (t : List ℕ) → length t ≡ 0 → i ≡ j → ChildrenWithin G line h t i j
+        nothing [] z e = rw e (empty-within b)
+        nothing (c ∷ t) z e = absurd (omega arith)
 
-    -- the first end in the set after symbol d is the chosen one
-    pub next-child : (d m e : ℕ) → d < length symbols → m ≤ length line → ChildrenWithin G line h (drop d symbols) m end →
-        FirstEnd (leads line (keptBelow (length line) depths h) (getD symbols d 0) (getD sets (suc d) 0) m) m (length line) e → NextChild G line h symbols end d m e
-    unfolding chosenRow
-    next-child d m e l a v f =
-        let c = getD symbols d 0 in
-        let s = drop (suc d) symbols in
-        let x = chosenEnd G line (depthOf G line) h c s m end in
-        let first = chosen-end G line proper h c s m end (rw (drop-cons symbols d 0 l) at v) in
-        let t = end-tells G line proper h c s m end x (first .passes) in
-        let i = child-inside (t .0 .child) in
-        let tells = leads-tells c (getD sets (suc d) 0) m in
-        let leads-x = tells x (known d l) a (i .ends) .1 (set-after d l x .1 (t .1), t .0) in
-        let not-before : x < e → ⊥ = λ k. true≢false (sym leads-x ∙ f .none x (i .rises) k) in
-        let low : e ≤ length line = omega (arith, i .ends) in
-        let r = tells e (known d l) a low .0 (f .found low) in
-        let rest = set-after d l e .0 (r .0) in
-        let least : x ≤ e = first .least e zero-le (end-passes G line proper h c s m end e (r .1) rest) in
-        let same : x ≡ e = omega arith in
-        record { inside = low; child = r .1; rest = rest; row = λ g. rw (drop-cons symbols d 0 l, same) }
+    module _ (set-after e : ℕ) (l : d < length symbols) (small : m < 64) (f : FirstThat (Leads G line h (getD symbols d 0) set-after m) e)
+        (exact : (x : ℕ) → Member set-after x ↔ ((i ≤ x) × ChildrenWithin G line h (drop (suc d) symbols) x j)) where
+      -- the first end in the set is the chosen one
+      end-chosen : ChildrenWithin G line h (drop d symbols) m j → (e ≡ chosenEnd G line (depthOf G line) h (getD symbols d 0) (drop (suc d) symbols) m j) × (e < 64)
+      end-chosen v =
+          let c = getD symbols d 0 in
+          let t = drop (suc d) symbols in
+          let x = chosenEnd G line (depthOf G line) h c t m j in
+          let first = chosen-end G line proper h c t m j (rw (drop-cons symbols d 0 l) at v) in
+          let tells = end-tells G line proper h c t m j x (first .passes) in
+          let r = child-inside (tells .0 .child) in
+          let not-before : x < e → ⊥ = λ k. f .none x k (exact x .1 (omega (arith, turn .after, r .rises), tells .1), tells .0) in
+          let few : e < 64 = omega (arith, r .ends) in
+          let found = f .found few in
+          let least : x ≤ e = first .least e zero-le (end-passes G line proper h c t m j e (found .1) (exact e .0 (found .0) .1)) in
+          (omega arith, few)
 
-    -- where no division serves
-    pub division-none : (i : ℕ) → i ≤ length line → ((m : ℕ) → i ≤ m → m < pastFirst (length symbols) i (length line) → division symbols line (keptBelow (length line) depths h) sets i end m ≡ false) →
-        ChildrenWithin G line h symbols i end → ⊥
-    division-none i a none v = go symbols refl
-      where
-        go : (s : List ℕ) → symbols ≡ s → ⊥
-        go [] e =
-            let q : i ≡ end = none-within (rw e at v) in
-            let z : length symbols ≡ 0 = ap length e in
-            let f = rw (eq-eqb (length symbols) 0 z) at (none i (omega arith) (rw (eq-eqb (length symbols) 0 z) (omega arith))) in
-            true≢false (sym (eq-eqb i end q) ∙ f)
-        go (c ∷ s) e =
-            let l : 0 < length symbols = rw e (suc-le-suc zero-le) in
-            let n = ne-eqb (length symbols) 0 (λ q. omega arith) in
-            let b = within-then (subst (λ (s : List ℕ). ChildrenWithin G line h s i end) (first-then l) v) in
-            let r = child-inside (b .1 .child) in
-            let f = rw n at (none (b .0) (r .rises) (rw n (omega (arith, r .ends)))) in
-            true≢false (sym (leads-tells (getD symbols 0 0) (getD sets 1 0) i (b .0) (known 0 l) a (r .ends) .1 (set-after 0 l (b .0) .1 (b .2), b .1)) ∙ f)
+      pub turn-next : d < 8 → SearchTurn G line h symbols i j (set ends (d + 1) e) e (d + 1)
+      turn-next k = rw add-one (record {
+        low = l;
+        after = after (decLt e 64);
+        long = length-set ends (suc d) e ∙ turn .long;
+        first = other 0 (λ q. omega arith) ∙ turn .first;
+        here = last;
+        begun = λ pos few. ⊎-elim
+            (λ (q : d ≡ 0).
+            let same : m ≡ i = sym (rw q at (turn .here)) ∙ turn .first in
+            let v : ChildrenWithin G line h (drop d symbols) m j = rw (drop-cons symbols d 0 l) (then-within (f .found few .1) (exact e .0 (f .found few .0) .1)) in
+            rw (q, same) at v)
+            (λ pos. turn .begun pos small)
+            (eq-zero-or-pos d);
+        left = λ v. exact e .0 (f .found (end-chosen (turn .left v) .1) .0) .1;
+        each = λ v x y. ⊎-elim
+            (λ (q : x ≡ d). rw (q, last, other d (λ z. omega arith), turn .here) (end-chosen (turn .left v) .0))
+            (λ z. rw (other (suc x) (λ w. omega arith), other x (λ w. omega arith)) (turn .each v x z))
+            (eq-or-lt-of-le (le-of-suc-le-suc y));
+      })
+        where
+          last : getD (set ends (suc d) e) (suc d) 0 ≡ e
+          last = getD-set-same ends (suc d) e 0 (omega (arith, turn .long))
+
+          other : (x : ℕ) → (x ≡ suc d → ⊥) → getD (set ends (suc d) e) x 0 ≡ getD ends x 0
+          other x n = getD-set-other ends (suc d) x e 0 n
+
+          after : Dec (e < 64) → i ≤ e
+          after (yes y) = exact e .0 (f .found y .0) .0
+          after (no y) = omega (arith, turn .after)

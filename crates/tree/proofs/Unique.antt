@@ -1,56 +1,19 @@
 -- Where a contract of this crate is a relation, two outcomes that it allows are equal.
-use Prim.Native.Nat.{ℕ, zero, suc, _+_, _-_, _<_}
+use Prim.Native.Nat.{ℕ, _<_}
 use mathlib.Core.Path.{_≡_, sym, _∙_, ap}
-use mathlib.Core.Logic.{_⊎_, inl, inr}
-use mathlib.Core.Bool.{Bool, true≢false}
 use mathlib.Core.List.{List, [], _∷_}
 use native.Mathlib.Decide.{decLt}
 use native.Mathlib.Omega.{arith}
-use lib.ListN.{length, getD}
-use lib.Seq.{ext-getD}
-use Rattle.positions.proofs.Members.{same-members}
-use Rattle.derivation.specs.Round.{Known}
 use Rattle.refusals.specs.declared.Check.the-variants as check
 use Rattle.refusals.specs.Told as told
 use Rattle.checks.proofs.Laws.{reported-passed, one-refusal, not-both}
 use Rattle.filling.proofs.Unique.{filled-unique}
 use Rattle.tree.specs.declared.TreeAnswer.{TreeAnswer}
 use Rattle.tree.specs.declared.TreeAnswer.the-variants as tree
-use Rattle.tree.specs.Sets.{FirstEnd, Sets}
 use Rattle.tree.specs.Counted.{Counted}
 use Rattle.tree.specs.Checks.{treeChecks}
 use Rattle.tree.specs.Told.{treeTold}
 use Rattle.tree.specs.Outcome.{TreeOutcome, turnedDown, noTree, shows}
-
--- there is one first end
-pub first-end-unique : {test : ℕ → Bool} {start n r q : ℕ} → FirstEnd test start n r → FirstEnd test start n q → r ≡ q
-first-end-unique {r = r} {q = q} x y =
-    let not-less : r < q → ⊥ = λ l. true≢false (sym (x .found (omega (arith, y .within))) ∙ y .none r (x .after) l) in
-    let not-more : q < r → ⊥ = λ l. true≢false (sym (y .found (omega (arith, x .within))) ∙ x .none q (y .after) l) in
-    omega arith
-
--- the sets are one
-module _ {symbols line : List ℕ} {known : Known} {end : ℕ} {a b : List ℕ} (x : Sets symbols line known end a) (y : Sets symbols line known end b) where
-  same-set : (t d : ℕ) → d + t ≡ length symbols → (0 < d) ⊎ (d ≡ length symbols) → getD a d 0 ≡ getD b d 0
-  same-set zero d e c =
-      let q : d ≡ length symbols = omega arith in
-      rw q (same-members _ _ (λ m. (λ h. y .last m .1 (x .last m .0 h), λ h. x .last m .1 (y .last m .0 h))))
-  same-set (suc t) d e (inr q) = absurd (omega arith)
-  same-set (suc t) d e (inl pos) =
-      let l : d < length symbols = omega arith in
-      let next = same-set t (suc d) (omega arith) (inl (omega arith)) in
-      let p = rw next at (x .each d pos l) in
-      let q = y .each d pos l in
-      same-members _ _ (λ m. (λ h. q m .1 (p m .0 h), λ h. p m .1 (q m .0 h)))
-
-  pub sets-unique : a ≡ b
-  sets-unique = ext-getD 0 a b (x .long ∙ sym (y .long)) (λ d l. go d (decLt (length symbols) d) (decLt 0 d) (decLt 0 (length symbols)))
-    where
-      go : (d : ℕ) → Dec (length symbols < d) → Dec (0 < d) → Dec (0 < length symbols) → getD a d 0 ≡ getD b d 0
-      go d (yes l) p q = x .rest d (inr l) ∙ sym (y .rest d (inr l))
-      go d (no l) (yes p) q = same-set (length symbols - d) d (omega arith) (inl p)
-      go d (no l) (no p) (yes q) = let z : d ≡ 0 = omega arith in x .rest d (inl (z, q)) ∙ sym (y .rest d (inl (z, q)))
-      go d (no l) (no p) (no q) = same-set 0 d (omega arith) (inr (omega arith))
 
 -- there is one count
 pub counted-unique : {total limit r q : ℕ} → Counted total limit r → Counted total limit q → r ≡ q

@@ -7,13 +7,12 @@ use native.Mathlib.Omega.{arith}
 use lib.ListN.{length, getD, drop, length-append, drop-of-length-le}
 use borrow.Author.Tests.{lt-ltb, le-ltb}
 use Rattle.derivation.specs.Grammar.{Grammar}
-use Rattle.derivation.specs.Within.{ChildrenWithin}
 use Rattle.derivation.specs.Node.{Node, tokenNode}
 use Rattle.derivation.specs.Table.{depthOf}
 use Rattle.derivation.specs.Shown.{chosenRow, shown}
 use Rattle.tree.specs.Bytes.{nodeBytes, bytes, wrote}
 use Rattle.tree.proofs.ByteLaws.{length-wrote, wrote-none, wrote-more, bytes-append}
-use Rattle.tree.proofs.SearchLaws.{NextChild}
+use Rattle.tree.proofs.TurnLaws.{NextChild}
 
 -- the nodes of the symbols from d on
 abbrev pub rowFrom : Grammar → List ℕ → ℕ → List ℕ → ℕ → ℕ → ℕ → List Node
@@ -22,16 +21,14 @@ rowFrom G line h symbols end d m = chosenRow G line (depthOf G line) (shown G li
 -- the first d children are written from `at` on; `all` is what is to be written
 pub record WriteTurn (G : Grammar) (line : List ℕ) (h : ℕ) (symbols : List ℕ) (end : ℕ) (row : List ℕ) (at : ℕ) (all : List ℕ) (d m place : ℕ) (out : List ℕ) : Type 0 where
   pub low : d ≤ length symbols
-  pub inside : m ≤ length line
-  pub left : ChildrenWithin G line h (drop d symbols) m end
   pub done : List ℕ
   pub whole : done ++ bytes (rowFrom G line h symbols end d m) ≡ all
   pub place-is : place ≡ at + length done
   pub out-is : out ≡ wrote row at done
 
 module _ (G : Grammar) (line : List ℕ) (h : ℕ) (symbols : List ℕ) (end : ℕ) (row : List ℕ) (at : ℕ) (nodes : List Node) (fits : at + length (bytes nodes) ≤ length row) where
-  write-begin : (i : ℕ) → nodes ≡ rowFrom G line h symbols end 0 i → i ≤ length line → ChildrenWithin G line h symbols i end → WriteTurn G line h symbols end row at (bytes nodes) 0 i at row
-  write-begin i e l v = record { low = omega arith; inside = l; left = v; done = []; whole = ap bytes (sym e); place-is = omega arith; out-is = sym (wrote-none row at) }
+  write-begin : (i : ℕ) → nodes ≡ rowFrom G line h symbols end 0 i → WriteTurn G line h symbols end row at (bytes nodes) 0 i at row
+  write-begin i e = record { low = omega arith; done = []; whole = ap bytes (sym e); place-is = omega arith; out-is = sym (wrote-none row at) }
 
   -- what is written leaves the row its length
   write-long : {d m place : ℕ} {out : List ℕ} → WriteTurn G line h symbols end row at (bytes nodes) d m place out → length out ≡ length row
@@ -55,8 +52,6 @@ module _ (G : Grammar) (line : List ℕ) (h : ℕ) (symbols : List ℕ) (end : �
     child-written : (place′ : ℕ) (out′ : List ℕ) → place′ ≡ place + length (bytes child) → out′ ≡ wrote out place (bytes child) → WriteTurn G line h symbols end row at (bytes nodes) (d + 1) x place′ out′
     child-written place′ out′ q o = rw add-one (record {
       low = l;
-      inside = n .inside;
-      left = n .rest;
       done = turn .done ++ bytes child;
       whole = append-assoc (turn .done) (bytes child) (bytes (rowFrom G line h symbols end (suc d) x)) ∙ parts;
       place-is = omega (arith, q, turn .place-is, length-append (turn .done) (bytes child));
@@ -105,8 +100,8 @@ module _ (G : Grammar) (line : List ℕ) (h : ℕ) (symbols : List ℕ) (end : �
   children-fit : place₀ + length (bytes children) ≤ length out₀
   children-fit = rw (q, o) (rest-fits row at root children nodes e fits)
 
-  pub turn-begin : i ≤ length line → ChildrenWithin G line h symbols i end → WriteTurn G line h symbols end out₀ place₀ (bytes children) 0 i place₀ out₀
-  turn-begin l v = write-begin G line h symbols end out₀ place₀ children children-fit i refl l v
+  pub turn-begin : WriteTurn G line h symbols end out₀ place₀ (bytes children) 0 i place₀ out₀
+  turn-begin = write-begin G line h symbols end out₀ place₀ children children-fit i refl
 
   -- what is written leaves the row its length
   pub turn-long : {d m place : ℕ} {out : List ℕ} → WriteTurn G line h symbols end out₀ place₀ (bytes children) d m place out → length out ≡ length row

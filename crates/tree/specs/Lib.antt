@@ -2,6 +2,7 @@ pub mod Bytes
 pub mod Kept
 pub mod Sets
 pub mod Searchable
+pub mod Searched
 pub mod Counted
 pub mod Checks
 pub mod Told

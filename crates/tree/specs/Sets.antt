@@ -1,46 +1,60 @@
--- The sets of positions from which a rule's later symbols reach an end, and the divisions that they allow.
-use Prim.Native.Nat.{ℕ, suc, _+_, _≤_, _<_}
+-- The sets of positions from which a rule's later symbols reach an end, as a memory tells them of any grammar whose chart and depths it keeps.
+use Prim.Native.Nat.{ℕ, suc, _-_, _≤_, _<_}
 use mathlib.Core.Path.{_≡_}
-use mathlib.Core.Logic.{_↔_, _⊎_}
-use mathlib.Core.Bool.{Bool, true, false, _&&_, cond}
+use mathlib.Core.Logic.{_↔_}
+use mathlib.Core.Bool.{Bool, true, false}
 use mathlib.Core.List.{List}
-use lib.ListN.{length, getD}
-use lib.Dec.{eqb}
-use Rattle.positions.specs.Member.{digit, Member}
-use Rattle.derivation.specs.Round.{Known, child}
+use lib.ListN.{length, getD, drop}
+use Rattle.positions.specs.Member.{Member}
+use Rattle.derivation.specs.Grammar.{Grammar, Rule}
+use Rattle.derivation.specs.Within.{ChildWithin, ChildrenWithin}
+use Rattle.tree.specs.Kept.{Kept, Charted}
 
--- a symbol derives m..e, and e is in the set
-unfoldable pub leads : List ℕ → Known → ℕ → ℕ → ℕ → ℕ → Bool
-leads line known symbol set m e = eqb (digit set e) 1 && child line known symbol m e
+-- a symbol that is a category is one of the grammar's
+abbrev pub CategoryKnown : Grammar → ℕ → Type 0
+CategoryKnown G symbol = 128 ≤ symbol → symbol - 128 < length (G .categories)
 
--- r is the first end from `start` on, up to n, that passes the test, and suc n where none does
-pub record FirstEnd (test : ℕ → Bool) (start n r : ℕ) : Type 0 where
-  pub after : start ≤ r
-  pub within : r ≤ suc n
-  pub none : (e : ℕ) → start ≤ e → e < r → test e ≡ false
-  pub found : r ≤ n → test r ≡ true
+-- the chart and the depths of the grammar on the line are in the memory
+pub record Work (G : Grammar) (line words depths : List ℕ) : Type 0 where
+  pub kept : Kept G line depths
+  pub charted : Charted G line words
 
--- from m, the symbol has an end in the set
-abbrev pub HasEnd : List ℕ → Known → ℕ → ℕ → ℕ → Type 0
-HasEnd line known symbol set m = (e : ℕ) × (m ≤ e) × (e ≤ length line) × (leads line known symbol set m e ≡ true)
+-- r is the first of 64 numbers of which P holds, and 64 where it holds of none
+pub record FirstThat (P : ℕ → Type 0) (r : ℕ) : Type 0 where
+  pub none : (e : ℕ) → e < r → P e → ⊥
+  pub found : r < 64 → P r
 
--- r is the set of the positions from which the symbol has an end in the set
-abbrev pub Before : List ℕ → Known → ℕ → ℕ → ℕ → Type 0
-Before line known symbol set r = (m : ℕ) → Member r m ↔ ((m ≤ length line) × HasEnd line known symbol set m)
+-- from m the symbol ends at e, a category with a depth of at most h, and e is in the set
+abbrev pub Leads : Grammar → List ℕ → ℕ → ℕ → ℕ → ℕ → ℕ → Type 0
+Leads G line h symbol set m e = Member set e × ChildWithin G line h symbol m e
 
--- set d has the positions from which the symbols from d on reach the end: after the last symbol the end alone, and for each d from 1 on those
--- from which symbol d has an end in set d + 1; the others are empty
-pub record Sets (symbols line : List ℕ) (known : Known) (end : ℕ) (sets : List ℕ) : Type 0 where
-  pub long : length sets ≡ 9
-  pub last : (m : ℕ) → Member (getD sets (length symbols) 0) m ↔ (m ≡ end)
-  pub each : (d : ℕ) → 0 < d → d < length symbols → Before line known (getD symbols d 0) (getD sets (suc d) 0) (getD sets d 0)
-  pub rest : (d : ℕ) → ((d ≡ 0) × (0 < length symbols)) ⊎ (length symbols < d) → getD sets d 0 ≡ 0
+-- r is the first end of the symbol from m that is in the set
+abbrev pub FirstEnd : (line words depths : List ℕ) → (h symbol set m r : ℕ) → Type 0
+FirstEnd line words depths h symbol set m r =
+    (G : Grammar) → Work G line words depths → CategoryKnown G symbol → FirstThat (Leads G line h symbol set m) r
 
--- the symbols have a division of i..j that serves and whose first end is m
-abbrev pub division : List ℕ → List ℕ → Known → List ℕ → ℕ → ℕ → ℕ → Bool
-division symbols line known sets i j m =
-    cond (eqb (length symbols) 0) (eqb i j) (leads line known (getD symbols 0 0) (getD sets 1 0) i m)
+-- r is the set of the positions from `start` on from which the symbol has an end in the set
+abbrev pub Reaching : Grammar → List ℕ → (h symbol set start r : ℕ) → Type 0
+Reaching G line h symbol set start r = (m : ℕ) → Member r m ↔ ((start ≤ m) × ((e : ℕ) × Leads G line h symbol set m e))
 
--- past the last first end to try: symbols that are none have one pass
-abbrev pub pastFirst : ℕ → ℕ → ℕ → ℕ
-pastFirst count i n = cond (eqb count 0) (i + 1) (n + 1)
+-- that of a class: the next position is in the set
+abbrev pub ClassBefore : (line : List ℕ) → (class set start r : ℕ) → Type 0
+ClassBefore line class set start r = (m : ℕ) → Member r m ↔ ((start ≤ m) × Member set (suc m) × (getD line m 0 ≡ class))
+
+pub record Before (line words depths : List ℕ) (h symbol set start end r : ℕ) : Type 0 where
+  pub inside : (m : ℕ) → Member r m → m ≤ end
+  pub exact : (G : Grammar) → Work G line words depths → CategoryKnown G symbol → Reaching G line h symbol set start r
+
+-- set d has the positions from `start` on from which the symbols from d on reach the end, for each d from 1 on
+pub record Sets (line words depths : List ℕ) (h : ℕ) (symbols : List ℕ) (start end : ℕ) (sets : List ℕ) : Type 0 where
+  pub inside : (d m : ℕ) → Member (getD sets d 0) m → m ≤ end
+  pub exact :
+      (G : Grammar) → Work G line words depths → ((d : ℕ) → d < length symbols → CategoryKnown G (getD symbols d 0)) →
+      (d : ℕ) → 0 < d → d ≤ length symbols → (m : ℕ) → Member (getD sets d 0) m ↔ ((start ≤ m) × ChildrenWithin G line h (drop d symbols) m end)
+
+-- a test of a rule: one that passes is of the category, and where it has no symbols i..j is empty; one that fails does not serve
+pub record MayServe (line words : List ℕ) (rule : Rule) (A i j : ℕ) (r : Bool) : Type 0 where
+  pub passes : r ≡ true → (rule .left ≡ A) × (length (rule .right) ≡ 0 → i ≡ j)
+  pub fails :
+      r ≡ false → rule .left ≡ A → (G : Grammar) → Charted G line words → (0 < length (rule .right) → CategoryKnown G (getD (rule .right) 0 0)) →
+      (h : ℕ) → ChildrenWithin G line h (rule .right) i j → ⊥

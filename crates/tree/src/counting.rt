@@ -6,8 +6,6 @@ ghost use Rattle.grammar.specs.Given.{grammarGiven};
 ghost use Rattle.tree.specs.Searchable.{Searchable, NodeAt};
 ghost use Rattle.tree.specs.Counted.{Counted};
 use super::division::depth_at;
-use super::division::first_end;
-use super::division::sets_before;
 use super::search::search;
 use grammar::rules::rule_symbols;
 
@@ -15,8 +13,8 @@ use grammar::rules::rule_symbols;
 pub fn count_nodes(
     g: &[u8],
     starts: &[usize; 128],
-    rules: usize,
     line: &[u8],
+    words: &[u64],
     depths: &[u16],
     category: usize,
     start: usize,
@@ -24,31 +22,30 @@ pub fn count_nodes(
     depth: u16,
     limit: usize,
 ) -> usize
-    requires { ⌜ Searchable (grammarGiven (now g)) (now g) (now starts) rules (now line) (now depths) × NodeAt (grammarGiven (now g)) (now line) category start end depth × (limit < 2 ^ 62) ⌝ }
+    requires { ⌜ Searchable (grammarGiven (now g)) (now g) (now starts) (now line) (now words) (now depths) × NodeAt (grammarGiven (now g)) (now line) category start end depth × (limit < 2 ^ 62) ⌝ }
     ensures { λ r. ⌜ Counted (length (shown (grammarGiven (now (g .entry))) (now (line .entry)) category start end)) limit r ⌝ }
 {
-    let h = depth - 1;
-    let p = search(g, starts, rules, line, depths, category, start, end, h);
-    let symbols = rule_symbols(g, starts[p]);
-    let sets = sets_before(symbols, line, depths, h, end);
+    let found = search(g, starts, line, words, depths, category, start, end, depth);
+    let rule = found.rule;
+    let ends = found.ends;
+    let symbols = rule_symbols(g, starts[rule]);
     let mut count: usize = 1;
-    let mut m = start;
     let mut d = 0;
     while d < symbols.len() {
         if limit < count {
             return count;
         }
         let symbol = symbols[d] as usize;
-        let e = first_end(symbol, line, depths, h, sets[d + 1], m);
         if symbol < 128 {
             count += 1;
         } else {
             let b = symbol - 128;
+            let m = ends[d];
+            let e = ends[d + 1];
             let deep = depth_at(depths, line.len(), b, m, e);
-            let more = count_nodes(g, starts, rules, line, depths, b, m, e, deep, limit - count);
+            let more = count_nodes(g, starts, line, words, depths, b, m, e, deep, limit - count);
             count += more;
         }
-        m = e;
         d += 1;
     }
     count

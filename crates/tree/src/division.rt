@@ -1,11 +1,14 @@
-// Where a rule's symbols can be divided, over the depths kept in memory: a category may be a child with a depth of at most h.
+// Where a rule's symbols can be divided, over the rows and depths kept in memory: a category may be a child with a depth of at most h.
 ghost use mathlib.Core.Path.{_≡_};
-ghost use Prim.Native.Nat.{ℕ, suc, _≤_, _<_};
+ghost use Prim.Native.Nat.{ℕ, suc, _+_, _≤_, _<_};
 ghost use lib.ListN.{length, getD};
-ghost use Rattle.derivation.specs.Round.{child};
+ghost use Rattle.positions.specs.Member.{Member};
 ghost use Rattle.checks.specs.Memory.{depthsSize};
-ghost use Rattle.tree.specs.Kept.{depthAt, keptBelow, Fits};
-ghost use Rattle.tree.specs.Sets.{leads, FirstEnd, Before, Sets, division};
+ghost use Rattle.grammar.specs.Value.{Stands, standing};
+ghost use Rattle.tree.specs.Kept.{depthAt, RowsFit, Fits};
+ghost use Rattle.tree.specs.Sets.{FirstThat, FirstEnd, ClassBefore, Before, Sets, MayServe};
+use grammar::rules::rule_left;
+use grammar::rules::rule_symbols;
 
 // The depth kept for (A, i, j) on a line of n tokens.
 pub fn depth_at(depths: &[u16], n: usize, category: usize, start: usize, end: usize) -> u16
@@ -16,81 +19,92 @@ pub fn depth_at(depths: &[u16], n: usize, category: usize, start: usize, end: us
     depths[(category * width + start) * width + end]
 }
 
-// Whether a symbol derives start..end.
-fn derives(symbol: usize, line: &[u8], depths: &[u16], h: u16, start: usize, end: usize) -> bool
-    requires { ⌜ (length (now line) ≤ 63) × (start ≤ length (now line)) × (end ≤ length (now line)) × Fits (length (now line)) (length (now depths)) symbol ⌝ }
-    ensures { λ r. ⌜ r ≡ child (now (line .entry)) (keptBelow (length (now (line .entry))) (now (depths .entry)) h) symbol start end ⌝ }
+// The first of some ends whose depth, kept from a base on, is at most h, and 64 for none.
+fn shallow_end(depths: &[u16], base: usize, ends: u64, h: u16) -> usize
+    requires { ⌜ ((e : ℕ) → Member ends e → base + e < length (now depths)) ⌝ }
+    ensures { λ r. ⌜ FirstThat (λ e. Member ends e × (getD (now (depths .entry)) (base + e) 0 ≤ h)) r ⌝ }
 {
-    if symbol < 128 {
-        if line.len() <= start {
-            return false;
+    let mut left = ends;
+    while left != 0 {
+        let e = positions::first(left) as usize;
+        if depths[base + e] <= h {
+            return e;
         }
-        if line[start] as usize != symbol {
-            return false;
-        }
-        return start + 1 == end;
+        left -= 1 << e;
     }
-    let depth = depth_at(depths, line.len(), symbol - 128, start, end);
-    if depth == 0 {
-        return false;
-    }
-    depth <= h
+    64
 }
 
-// Whether a symbol derives start..end, and the end is in the set.
-fn leads_to(
-    symbol: usize,
-    line: &[u8],
-    depths: &[u16],
-    h: u16,
-    set: u64,
-    start: usize,
-    end: usize,
-) -> bool
-    requires { ⌜ (length (now line) ≤ 63) × (start ≤ length (now line)) × (end ≤ length (now line)) × Fits (length (now line)) (length (now depths)) symbol ⌝ }
-    ensures { λ r. ⌜ r ≡ leads (now (line .entry)) (keptBelow (length (now (line .entry))) (now (depths .entry)) h) symbol set start end ⌝ }
-{
-    if positions::member(set, end) {
-        return derives(symbol, line, depths, h, start, end);
-    }
-    false
-}
-
-// The first end of a symbol from a start that is in the set, and past the line for none.
+// The first end of a symbol from a start that is in the set, and 64 for none; a class ends after its token.
 pub fn first_end(
     symbol: usize,
     line: &[u8],
+    words: &[u64],
     depths: &[u16],
     h: u16,
     set: u64,
     start: usize,
 ) -> usize
-    requires { ⌜ (length (now line) ≤ 63) × (start ≤ length (now line)) × Fits (length (now line)) (length (now depths)) symbol ⌝ }
-    ensures { λ r. ⌜ FirstEnd (leads (now (line .entry)) (keptBelow (length (now (line .entry))) (now (depths .entry)) h) symbol set start) start (length (now (line .entry))) r ⌝ }
+    requires { ⌜ (length (now line) ≤ 63) × (start ≤ length (now line)) × ((e : ℕ) → Member set e → e ≤ length (now line)) × Fits (length (now line)) (length (now words)) (length (now depths)) symbol ⌝ }
+    ensures { λ r. ⌜ FirstEnd (now (line .entry)) (now (words .entry)) (now (depths .entry)) h symbol set start r ⌝ }
 {
-    let mut end = start;
-    while end <= line.len() {
-        if leads_to(symbol, line, depths, h, set, start, end) {
-            return end;
-        }
-        end += 1;
+    if 128 <= symbol {
+        let width = line.len() + 1;
+        let row = (symbol - 128) * width + start;
+        return shallow_end(depths, row * width, words[row] & set, h);
     }
-    end
+    if line.len() <= start {
+        return 64;
+    }
+    if line[start] as usize != symbol {
+        return 64;
+    }
+    if positions::member(set, start + 1) {
+        return start + 1;
+    }
+    64
 }
 
-// The starts from which a symbol has an end in the set.
-fn starts_before(symbol: usize, line: &[u8], depths: &[u16], h: u16, set: u64) -> u64
-    requires { ⌜ (length (now line) ≤ 63) × Fits (length (now line)) (length (now depths)) symbol ⌝ }
-    ensures { λ r. ⌜ Before (now (line .entry)) (keptBelow (length (now (line .entry))) (now (depths .entry)) h) symbol set r ⌝ }
+// The positions from a start on at which the line has a class, and after which the next is in the set.
+fn class_starts(class: usize, line: &[u8], set: u64, start: usize) -> u64
+    requires { ⌜ (length (now line) ≤ 63) × ((e : ℕ) → Member set e → e ≤ length (now line)) ⌝ }
+    ensures { λ r. ⌜ ClassBefore (now (line .entry)) class set start r ⌝ }
 {
-    if set == 0 {
-        return 0;
+    let mut starts = 0u64;
+    let mut left = set;
+    while left != 0 {
+        let e = positions::first(left) as usize;
+        if start < e {
+            if line[e - 1] as usize == class {
+                starts = positions::insert(starts, e - 1);
+            }
+        }
+        left -= 1 << e;
+    }
+    starts
+}
+
+// The positions from a start on from which a symbol has an end in the set, which has none past `end`.
+fn starts_before(
+    symbol: usize,
+    line: &[u8],
+    words: &[u64],
+    depths: &[u16],
+    h: u16,
+    set: u64,
+    start: usize,
+    end: usize,
+) -> u64
+    requires { ⌜ (length (now line) ≤ 63) × (end ≤ length (now line)) × ((e : ℕ) → Member set e → e ≤ end) × Fits (length (now line)) (length (now words)) (length (now depths)) symbol ⌝ }
+    ensures { λ r. ⌜ Before (now (line .entry)) (now (words .entry)) (now (depths .entry)) h symbol set start end r ⌝ }
+{
+    if symbol < 128 {
+        return class_starts(symbol, line, set, start);
     }
     let mut starts = 0u64;
-    let mut m = 0;
-    while m <= line.len() {
-        let end = first_end(symbol, line, depths, h, set, m);
-        if end <= line.len() {
+    let mut m = start;
+    while m <= end {
+        if first_end(symbol, line, words, depths, h, set, m) < 64 {
             starts = positions::insert(starts, m);
         }
         m += 1;
@@ -98,37 +112,61 @@ fn starts_before(symbol: usize, line: &[u8], depths: &[u16], h: u16, set: u64) -
     starts
 }
 
-// For each of a rule's symbols, the ends from which the symbols after it reach `end`; from the right, one word each.
-pub fn sets_before(symbols: &[u8], line: &[u8], depths: &[u16], h: u16, end: usize) -> [u64; 9]
-    requires { ⌜ (length (now line) ≤ 63) × (end ≤ length (now line)) × (length (now symbols) ≤ 8) × ((d : ℕ) → d < length (now symbols) → Fits (length (now line)) (length (now depths)) (getD (now symbols) d 0)) ⌝ }
-    ensures { λ r. ⌜ Sets (now (symbols .entry)) (now (line .entry)) (keptBelow (length (now (line .entry))) (now (depths .entry)) h) end r ⌝ }
+// For each of a rule's symbols but the first, the positions from a start on from which it and those after it reach `end`; from the right, one word each, up to one that is empty.
+pub fn sets_before(
+    symbols: &[u8],
+    line: &[u8],
+    words: &[u64],
+    depths: &[u16],
+    h: u16,
+    start: usize,
+    end: usize,
+) -> [u64; 9]
+    requires { ⌜ (length (now line) ≤ 63) × (start ≤ end) × (end ≤ length (now line)) × (length (now symbols) ≤ 8) × ((d : ℕ) → d < length (now symbols) → Fits (length (now line)) (length (now words)) (length (now depths)) (getD (now symbols) d 0)) ⌝ }
+    ensures { λ r. ⌜ Sets (now (line .entry)) (now (words .entry)) (now (depths .entry)) h (now (symbols .entry)) start end r ⌝ }
 {
     let mut sets = [0u64; 9];
     let mut d = symbols.len();
-    sets[d] = positions::insert(0, end);
+    let mut set = positions::insert(0, end);
+    sets[d] = set;
     while 1 < d {
+        if set == 0 {
+            return sets;
+        }
         d -= 1;
-        sets[d] = starts_before(symbols[d] as usize, line, depths, h, sets[d + 1]);
+        set = starts_before(symbols[d] as usize, line, words, depths, h, set, start, end);
+        sets[d] = set;
     }
     sets
 }
 
-// Whether the symbols have a division of start..end that serves and whose first end is `first`; one without symbols has no first end.
-pub fn serves(
-    symbols: &[u8],
+// Whether the rule that stands at a place may serve: it is of the category, and its first symbol has some end; one without symbols serves where start..end is empty.
+pub fn may_serve(
+    g: &[u8],
+    at: usize,
+    category: usize,
     line: &[u8],
-    depths: &[u16],
-    h: u16,
-    sets: &[u64; 9],
+    words: &[u64],
     start: usize,
     end: usize,
-    first: usize,
 ) -> bool
-    requires { ⌜ (length (now line) ≤ 63) × (start ≤ length (now line)) × (first ≤ length (now line)) × (length (now sets) ≡ 9) × (0 < length (now symbols) → Fits (length (now line)) (length (now depths)) (getD (now symbols) 0 0)) ⌝ }
-    ensures { λ r. ⌜ r ≡ division (now (symbols .entry)) (now (line .entry)) (keptBelow (length (now (line .entry))) (now (depths .entry)) h) (now (sets .entry)) start end first ⌝ }
+    requires { ⌜ Stands (now g) at × (length (now line) ≤ 63) × (start ≤ length (now line)) × (0 < length (standing (now g) at .right) → RowsFit (length (now line)) (length (now words)) (getD (standing (now g) at .right) 0 0)) ⌝ }
+    ensures { λ r. ⌜ MayServe (now (line .entry)) (now (words .entry)) (standing (now (g .entry)) at) category start end r ⌝ }
 {
+    if rule_left(g, at) as usize != category {
+        return false;
+    }
+    let symbols = rule_symbols(g, at);
     if symbols.len() == 0 {
         return start == end;
     }
-    leads_to(symbols[0] as usize, line, depths, h, sets[1], start, first)
+    let symbol = symbols[0] as usize;
+    if 128 <= symbol {
+        let row = (symbol - 128) * (line.len() + 1) + start;
+        return words[row] != 0;
+    }
+    if line.len() <= start {
+        return false;
+    }
+    line[start] as usize == symbol
 }

@@ -2,18 +2,18 @@
 ghost use mathlib.Core.Path.{_≡_};
 ghost use Prim.Native.Nat.{_≤_, _<_};
 ghost use lib.ListN.{length};
-ghost use Rattle.checks.specs.Memory.{depthsSize};
+ghost use Rattle.checks.specs.Memory.{chartSize, depthsSize};
 ghost use Rattle.grammar.specs.declared.reading.Reading.the-variants.{Accepted};
 ghost use Rattle.grammar.specs.Reading.{readOf};
 ghost use Rattle.grammar.specs.Given.{grammarGiven};
-ghost use Rattle.tree.specs.Kept.{Kept};
+ghost use Rattle.tree.specs.Kept.{Kept, Charted};
 ghost use Rattle.tree.specs.Shows.{Shows};
 ghost use Rattle.tree.specs.Outcome.{TreeOutcome};
 
 mod counting; // counting.rt: how many nodes a tree has, up to a limit
 mod division; // division.rt: where a rule's symbols can be divided below a depth
 pub mod node; // node.rt: a node, before it becomes bytes, and its bytes
-mod search; // search.rt: which rule a node uses
+mod search; // search.rt: which rule a node uses, and its children's ends
 mod writing; // writing.rt: a tree's nodes as bytes
 
 use chart::work::checked;
@@ -38,27 +38,27 @@ fn show(
     g: &[u8],
     s: Sections,
     line: &[u8],
+    words: &[u64],
     depths: &[u16],
     a: usize,
     i: usize,
     j: usize,
     out: &mut [u8],
 ) -> TreeAnswer
-    requires { ⌜ (readOf (now g) ≡ Accepted s) × (length (now line) ≤ 63) × (a < s .categories) × (i ≤ length (now line)) × (j ≤ length (now line)) × (depthsSize (s .categories) (length (now line)) ≤ length (now depths)) × Kept (grammarGiven (now g)) (now line) (now depths) ⌝ }
+    requires { ⌜ (readOf (now g) ≡ Accepted s) × (length (now line) ≤ 63) × (a < s .categories) × (i ≤ length (now line)) × (j ≤ length (now line)) × (depthsSize (s .categories) (length (now line)) ≤ length (now depths)) × Kept (grammarGiven (now g)) (now line) (now depths) × (chartSize (s .categories) (length (now line)) ≤ length (now words)) × Charted (grammarGiven (now g)) (now line) (now words) ⌝ }
     ensures { λ r. ⌜ Shows (grammarGiven (now (g .entry))) (now (line .entry)) a i j (now (out .entry)) r (now (out .exit)) ⌝ }
 {
-    let rules = s.rules;
     let depth = depth_at(depths, line.len(), a, i, j);
     if depth == 0 {
         return TreeAnswer::Refused(Refusal::TreeOfNoFact);
     }
     let starts = rule_starts_of(g, s);
     let room = out.len() / 4;
-    let count = count_nodes(g, &starts, rules, line, depths, a, i, j, depth, room);
+    let count = count_nodes(g, &starts, line, words, depths, a, i, j, depth, room);
     if room < count {
         return TreeAnswer::Refused(Refusal::TreeTooSmall);
     }
-    write(g, &starts, rules, line, depths, a, i, j, depth, out, 0);
+    write(g, &starts, line, words, depths, a, i, j, depth, out, 0);
     TreeAnswer::Nodes { count }
 }
 
@@ -89,5 +89,5 @@ pub fn tree(
         Reading::Accepted(s) => s,
     };
     fill(g, s, line, words, depths);
-    show(g, s, line, depths, category, start, end, out)
+    show(g, s, line, words, depths, category, start, end, out)
 }

@@ -1,62 +1,54 @@
-// The search at a node: the lowest-numbered rule of its category for which some division serves.
-ghost use mathlib.Core.Path.{_≡_};
-ghost use Prim.Native.Nat.{_≤_};
-ghost use lib.ListN.{length};
-ghost use Rattle.derivation.specs.Table.{depthOf};
-ghost use Rattle.derivation.specs.Shown.{chosenRule};
+// The search at a node: the lowest-numbered rule of its category for which some division serves, and the first of its divisions.
 ghost use Rattle.grammar.specs.Given.{grammarGiven};
-ghost use Rattle.tree.specs.Sets.{pastFirst};
-ghost use Rattle.tree.specs.Searchable.{Searchable};
-use super::division::serves;
+ghost use Rattle.tree.specs.Searchable.{Searchable, NodeAt};
+ghost use Rattle.tree.specs.Searched.{Searched};
+use super::division::first_end;
+use super::division::may_serve;
 use super::division::sets_before;
-use grammar::rules::rule_left;
 use grammar::rules::rule_symbols;
 
-// Past the last first end to try: a rule without symbols has one pass.
-fn past_first(symbols: usize, start: usize, n: usize) -> usize
-    requires { ⌜ (n ≤ 63) × (start ≤ n) ⌝ }
-    ensures { λ r. ⌜ r ≡ pastFirst symbols start n ⌝ }
-{
-    if symbols == 0 {
-        return start + 1;
-    }
-    n + 1
+// A rule and its division: the start of its first symbol, then the end of each symbol.
+pub struct Found {
+    pub rule: usize,
+    pub ends: [usize; 9],
 }
 
-// The first rule of the category with a division of start..end whose category children have a depth of at most h; the number of rules for none.
+// The rule and the division of (A, i, j), a fact of this depth: so some rule serves.
 pub fn search(
     g: &[u8],
     starts: &[usize; 128],
-    rules: usize,
     line: &[u8],
+    words: &[u64],
     depths: &[u16],
     category: usize,
     start: usize,
     end: usize,
-    h: u16,
-) -> usize
-    requires { ⌜ Searchable (grammarGiven (now g)) (now g) (now starts) rules (now line) (now depths) × (start ≤ length (now line)) × (end ≤ length (now line)) ⌝ }
-    ensures { λ r. ⌜ r ≡ chosenRule (grammarGiven (now (g .entry))) (now (line .entry)) (depthOf (grammarGiven (now (g .entry))) (now (line .entry))) h category start end ⌝ }
+    depth: u16,
+) -> Found
+    requires { ⌜ Searchable (grammarGiven (now g)) (now g) (now starts) (now line) (now words) (now depths) × NodeAt (grammarGiven (now g)) (now line) category start end depth ⌝ }
+    ensures { λ r. ⌜ Searched (grammarGiven (now (g .entry))) (now (line .entry)) category start end depth r ⌝ }
 {
+    let h = depth - 1;
     let mut p = 0;
     'search: loop {
-        if rules <= p {
-            break 'search p;
-        }
         let at = starts[p];
-        if rule_left(g, at) as usize != category {
+        if !may_serve(g, at, category, line, words, start, end) {
             p += 1;
             continue 'search;
         }
         let symbols = rule_symbols(g, at);
-        let sets = sets_before(symbols, line, depths, h, end);
-        let past = past_first(symbols.len(), start, line.len());
-        let mut first = start;
-        while first < past {
-            if serves(symbols, line, depths, h, &sets, start, end, first) {
-                break 'search p;
+        let sets = sets_before(symbols, line, words, depths, h, start, end);
+        let mut ends = [start; 9];
+        let mut m = start;
+        let mut d = 0;
+        while m < 64 {
+            if d == symbols.len() {
+                break 'search Found { rule: p, ends };
             }
-            first += 1;
+            let symbol = symbols[d] as usize;
+            d += 1;
+            m = first_end(symbol, line, words, depths, h, sets[d], m);
+            ends[d] = m;
         }
         p += 1;
     }

@@ -7,8 +7,6 @@ ghost use Rattle.grammar.specs.Given.{grammarGiven};
 ghost use Rattle.tree.specs.Bytes.{bytes, wrote};
 ghost use Rattle.tree.specs.Searchable.{Searchable, NodeAt};
 use super::division::depth_at;
-use super::division::first_end;
-use super::division::sets_before;
 use super::node::put_node;
 use super::node::rule_node;
 use super::node::token_node;
@@ -19,8 +17,8 @@ use grammar::rules::rule_symbols;
 pub fn write(
     g: &[u8],
     starts: &[usize; 128],
-    rules: usize,
     line: &[u8],
+    words: &[u64],
     depths: &[u16],
     category: usize,
     start: usize,
@@ -29,27 +27,26 @@ pub fn write(
     out: &mut [u8],
     at: usize,
 ) -> usize
-    requires { ⌜ Searchable (grammarGiven (now g)) (now g) (now starts) rules (now line) (now depths) × NodeAt (grammarGiven (now g)) (now line) category start end depth × (at + length (bytes (shown (grammarGiven (now g)) (now line) category start end)) ≤ length (now out)) ⌝ }
+    requires { ⌜ Searchable (grammarGiven (now g)) (now g) (now starts) (now line) (now words) (now depths) × NodeAt (grammarGiven (now g)) (now line) category start end depth × (at + length (bytes (shown (grammarGiven (now g)) (now line) category start end)) ≤ length (now out)) ⌝ }
     ensures { λ r. ⌜ (r ≡ at + length (bytes (shown (grammarGiven (now (g .entry))) (now (line .entry)) category start end))) × (now (out .exit) ≡ wrote (now (out .entry)) at (bytes (shown (grammarGiven (now (g .entry))) (now (line .entry)) category start end))) ⌝ }
 {
-    let h = depth - 1;
-    let p = search(g, starts, rules, line, depths, category, start, end, h);
-    let symbols = rule_symbols(g, starts[p]);
-    let sets = sets_before(symbols, line, depths, h, end);
-    let mut place = put_node(out, at, rule_node(p, start, end));
-    let mut m = start;
+    let found = search(g, starts, line, words, depths, category, start, end, depth);
+    let rule = found.rule;
+    let ends = found.ends;
+    let symbols = rule_symbols(g, starts[rule]);
+    let mut place = put_node(out, at, rule_node(rule, start, end));
     let mut d = 0;
     while d < symbols.len() {
         let symbol = symbols[d];
-        let e = first_end(symbol as usize, line, depths, h, sets[d + 1], m);
+        let m = ends[d];
+        let e = ends[d + 1];
         if symbol < 128 {
             place = put_node(out, place, token_node(symbol, m, e));
         } else {
             let b = symbol as usize - 128;
             let deep = depth_at(depths, line.len(), b, m, e);
-            place = write(g, starts, rules, line, depths, b, m, e, deep, out, place);
+            place = write(g, starts, line, words, depths, b, m, e, deep, out, place);
         }
-        m = e;
         d += 1;
     }
     place

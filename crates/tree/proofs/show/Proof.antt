@@ -13,40 +13,40 @@ use Rattle.tree.proofs.show.Statement.{statement}
 use Rattle.tree.proofs.show.Tie as tie
 
 depth-at-requires : tie.Need-depth-at-requires
-depth-at-requires c κs = let p = c .before .before .before .before .pre in (p .1, p .3, p .4, depths-inside _ _ _ _ (p .2) (p .5))
+depth-at-requires c κs = let p = c .before .before .before .before .before .pre in (p .1, p .3, p .4, depths-inside _ _ _ _ (p .2) (p .5))
 
 returns : tie.Need-returns
-returns c = let p = c .before .before .before .before .before .before .pre in show-none _ _ _ _ _ (given-proper _ _ (p .0)) _ _ (p .6 _ _ _ (given-categories _ _ (p .0) _ (p .2)) (p .3) (p .4)) (sym (c .before .depth-at .ensures) ∙ c .if1 .taken)
+returns c = let p = c .before .before .before .before .before .before .before .pre in show-none _ _ _ _ _ (given-proper _ _ (p .0)) _ _ (p .6 _ _ _ (given-categories _ _ (p .0) _ (p .2)) (p .3) (p .4)) (sym (c .before .depth-at .ensures) ∙ c .if1 .taken)
 
 rule-starts-of-requires : tie.Need-rule-starts-of-requires
-rule-starts-of-requires c κs = accepted _ _ (c .before .before .before .before .before .before .pre .0) .0
+rule-starts-of-requires c κs = accepted _ _ (c .before .before .before .before .before .before .before .pre .0) .0
 
 -- the fact as a node
-node : (c : tie.Else1) → let a = c .before .before .before .before .before .before .args in NodeAt (grammarGiven (now (a .g))) (now (a .line)) (a .a) (a .i) (a .j) (c .before .depth-at .result)
+node : (c : tie.Else1) → let a = c .before .before .before .before .before .before .before .args in NodeAt (grammarGiven (now (a .g))) (now (a .line)) (a .a) (a .i) (a .j) (c .before .depth-at .result)
 node c =
-    let p = c .before .before .before .before .before .before .pre in
-    node-at _ _ _ _ _ (given-proper _ _ (p .0)) (now (c .before .before .before .before .before .before .args .depths)) (p .6) (given-categories _ _ (p .0) _ (p .2)) (p .3) (p .4) _ (c .before .depth-at .ensures) (c .if1 .left)
+    let p = c .before .before .before .before .before .before .before .pre in
+    node-at _ _ _ _ _ (given-proper _ _ (p .0)) (now (c .before .before .before .before .before .before .before .args .depths)) (p .6) (given-categories _ _ (p .0) _ (p .2)) (p .3) (p .4) _ (c .before .depth-at .ensures) (c .if1 .left)
 
 -- the rules where they stand
 ready : (c : tie.After-rule-starts-of) →
-    let a = c .before .before .before .before .before .before .before .args in
-    Searchable (grammarGiven (now (a .g))) (now (a .g)) (c .rule-starts-of .result) (a .s .rules) (now (a .line)) (now (a .depths))
-ready c = let p = c .before .before .before .before .before .before .before .pre in searchable _ _ _ _ _ (p .0) (c .rule-starts-of .ensures) (p .1) (p .5) (p .6)
+    let a = c .before .before .before .before .before .before .before .before .args in
+    Searchable (grammarGiven (now (a .g))) (now (a .g)) (c .rule-starts-of .result) (now (a .line)) (now (a .words)) (now (a .depths))
+ready c = let p = c .before .before .before .before .before .before .before .before .pre in searchable _ _ _ _ _ _ (p .0) (c .rule-starts-of .ensures) (p .1) (p .7) (p .5) (record { kept = p .6; charted = p .8 })
 
 count-nodes-requires : tie.Need-count-nodes-requires
 count-nodes-requires c κs = (ready (c .before), node (c .before .before), omega arith)
 
 returns-2 : tie.Need-returns-2
-returns-2 c = show-small _ _ _ _ _ (given-proper _ _ (c .before .before .before .before .before .before .before .before .before .before .pre .0)) _ _ _ (node (c .before .before .before .before)) (c .before .count-nodes .ensures) (c .if2 .taken)
+returns-2 c = show-small _ _ _ _ _ (given-proper _ _ (c .before .before .before .before .before .before .before .before .before .before .before .pre .0)) _ _ _ (node (c .before .before .before .before)) (c .before .count-nodes .ensures) (c .if2 .taken)
 
 write-requires : tie.Need-write-requires
-write-requires c κs = (ready (c .before .before .before .before .before), node (c .before .before .before .before .before .before), has-room _ _ _ _ _ (given-proper _ _ (c .before .before .before .before .before .before .before .before .before .before .before .before .pre .0)) (now (c .before .before .before .before .before .before .before .before .before .before .before .before .args .out)) _ _ (node (c .before .before .before .before .before .before)) (c .before .before .before .count-nodes .ensures) (c .before .before .if2 .left))
+write-requires c κs = (ready (c .before .before .before .before .before), node (c .before .before .before .before .before .before), has-room _ _ _ _ _ (given-proper _ _ (c .before .before .before .before .before .before .before .before .before .before .before .before .before .pre .0)) (now (c .before .before .before .before .before .before .before .before .before .before .before .before .before .args .out)) _ _ (node (c .before .before .before .before .before .before)) (c .before .before .before .count-nodes .ensures) (c .before .before .if2 .left))
 
 same-length : tie.Need-same-length
 same-length c = search needs
 
 returns-3 : tie.Need-returns-3
-returns-3 c = show-all _ _ _ _ _ (given-proper _ _ (c .before .before .before .before .before .before .before .before .before .before .before .before .before .before .before .pre .0)) _ _ _ (node (c .before .before .before .before .before .before .before .before .before)) (c .before .before .before .before .before .before .count-nodes .ensures) _ (c .before .before .before .before .before .if2 .left) (c .before .before .write .ensures .1)
+returns-3 c = show-all _ _ _ _ _ (given-proper _ _ (c .before .before .before .before .before .before .before .before .before .before .before .before .before .before .before .before .pre .0)) _ _ _ (node (c .before .before .before .before .before .before .before .before .before)) (c .before .before .before .before .before .before .count-nodes .ensures) _ (c .before .before .before .before .before .if2 .left) (c .before .before .write .ensures .1)
 
 pub show-spec : {M : Type 1} → statement M
 show-spec =

@@ -10,7 +10,7 @@ use Rattle.grammar.specs.Reading.{readOf}
 use Rattle.grammar.specs.Given.{grammarGiven}
 use Rattle.chart.proofs.CheckLaws.{Passes, checked-refused, checked-accepted, sections, line-is, asked-is, memory-is}
 use Rattle.tree.specs.Checks.{treeFact, treeRoom}
-use Rattle.tree.proofs.OutcomeLaws.{tree-turned, filled-kept, tree-shown}
+use Rattle.tree.proofs.OutcomeLaws.{tree-turned, filled-kept, filled-charted, tree-shown}
 use borrow.Author.Needs.{needs}
 use Rattle.tree.proofs.tree.Statement.{statement}
 use Rattle.tree.proofs.tree.Tie as tie
@@ -51,11 +51,11 @@ fill-requires c κs = let p = passes (c .before .before .before) in (sections p,
 
 show-requires : tie.Need-show-requires
 show-requires c κs =
-    let filled = c .before .before .before .before .before .before in
+    let filled = c .before .before .before .before .before .before .before in
     let p = passes (asked filled) in
     let span = span-passed _ _ _ _ _ (asked-is p) in
     let work = filled .fill .ensures .work in
-    (p .read, line-is p .short, span .0, span .1, span .2, omega (arith, memory-is p .1, work .depths-long), filled-kept p work)
+    (p .read, line-is p .short, span .0, span .1, span .2, rw (work .depths-long) (memory-is p .1), filled-kept p work, rw (work .words-long) (memory-is p .0), filled-charted p work)
 
 same-length : tie.Need-same-length
 same-length c = search needs
@@ -68,7 +68,7 @@ same-length-3 c = search needs
 
 returns-2 : tie.Need-returns-2
 returns-2 c =
-    let filled = c .before .before .before .before .before .before .before .before .before in
+    let filled = c .before .before .before .before .before .before .before .before .before .before in
     tree-shown _ _ _ _ _ _ _ _ _ (passes (asked filled)) (filled .fill .ensures .work) _ _ (c .before .before .show .ensures)
 
 pub tree-spec : {M : Type 1} → statement M

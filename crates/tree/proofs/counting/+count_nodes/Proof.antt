@@ -1,35 +1,33 @@
 -- `tree::counting::count_nodes` meets its contract; the depth that is handed in falls at each call. The loop's invariant: the first d children are counted.
-use Prim.Native.Nat.{ℕ, _-_, _<_}
+use Prim.Native.Nat.{ℕ, _+_, _-_, _<_}
 use mathlib.Core.Path.{ap}
 use mathlib.Core.Logic.{⊎-elim}
+use native.Mathlib.Nat.{lt-of-lt-of-le}
 use native.Mathlib.Omega.{arith}
-use lib.ListN.{length}
+use lib.ListN.{length, getD}
 use denote.Ref.{now}
 use borrow.Author.Needs.{needs}
 use borrow.Fn.Kinds.{In}
 use borrow.Fn.PlainCycle.{Measures, is, falls, and}
 use Rattle.derivation.specs.Shown.{shown}
 use Rattle.grammar.specs.Given.{grammarGiven}
-use Rattle.tree.proofs.SearchLaws.{NextChild}
-use Rattle.tree.proofs.TurnLaws.{rule-inside, turn-few, turn-fit, begins, turn-shown, turn-child, child-node}
+use Rattle.tree.proofs.TurnLaws.{NextChild, found-inside, turn-few, turn-fit, turn-shown, turn-child, child-node}
 use Rattle.tree.proofs.CountLaws.{CountTurn, count-begin, count-token, count-category, count-end, counting-over}
 use Rattle.tree.proofs.counting.count_nodes.Reads as count-nodes
 use Rattle.tree.proofs.counting.count_nodes.Kinds as count-nodes-kinds
 use Rattle.tree.proofs.counting.+count_nodes.Lts-count_nodes as lts
 use Rattle.grammar.proofs.rules.rule_symbols.Reads as rule-symbols-reads
 use Rattle.tree.proofs.division.depth_at.Reads as depth-at-reads
-use Rattle.tree.proofs.division.first_end.Reads as first-end-reads
-use Rattle.tree.proofs.division.sets_before.Reads as sets-before-reads
 use Rattle.tree.proofs.search.search.Reads as search-reads
 use Rattle.tree.proofs.counting.+count_nodes.{statement}
 use Rattle.tree.proofs.counting.+count_nodes.Tie.{close}
 
 -- the depth that is handed in
-abbrev μ : Measures 4 count-nodes-kinds.ps ℕ
+abbrev μ : Measures 5 count-nodes-kinds.ps ℕ
 μ κs a = a .1 .1 .1 .1 .1 .1 .1 .1 .0
 
-abbrev at : ℕ → In 4 count-nodes-kinds.ps
-at t = and 4 count-nodes-kinds.ps (is 4 count-nodes-kinds.ps μ t) count-nodes.Pre
+abbrev at : ℕ → In 5 count-nodes-kinds.ps
+at t = and 5 count-nodes-kinds.ps (is 5 count-nodes-kinds.ps μ t) count-nodes.Pre
 
 abbrev claims : ℕ → lts.Claims
 claims t = (
@@ -37,132 +35,150 @@ claims t = (
   search-reads.Learnt,
   rule-symbols-reads.Asked,
   rule-symbols-reads.Learnt,
-  sets-before-reads.Asked,
-  sets-before-reads.Learnt,
-  first-end-reads.Asked,
-  first-end-reads.Learnt,
   depth-at-reads.Asked,
   depth-at-reads.Learnt,
-  and 4 count-nodes-kinds.ps (falls 4 count-nodes-kinds.ps _<_ μ t) count-nodes.Pre,
+  and 5 count-nodes-kinds.ps (falls 5 count-nodes-kinds.ps _<_ μ t) count-nodes.Pre,
   count-nodes.Post,
 )
 
 abbrev Inv-loop : lts.InvT-loop
-Inv-loop g starts rules line depths category start end depth limit h p symbols sets count₀ m₀ d₀ count m d =
-    CountTurn (grammarGiven g) line h symbols end limit (length (shown (grammarGiven g) line category start end)) d m count
+Inv-loop g starts line words depths category start end depth limit rule ends symbols count₀ d₀ count d =
+    CountTurn (grammarGiven g) line (depth - 1) symbols end limit (length (shown (grammarGiven g) line category start end)) d (getD ends d 0) count
 
 abbrev μ-loop : lts.MeasureT-loop
-μ-loop g starts rules line depths category start end depth limit h p symbols sets count₀ m₀ d₀ count m d = length symbols - d
+μ-loop g starts line words depths category start end depth limit rule ends symbols count₀ d₀ count d = length symbols - d
 
-sub-h : (t : ℕ) → lts.Need-sub-h (claims t) (at t) count-nodes.Post Inv-loop μ-loop
-sub-h t c = omega (arith, c .before .before .before .pre .1 .1 .fact)
+module _ (t : ℕ) where
+  abbrev asked : lts.After-search (claims t) (at t) count-nodes.Post Inv-loop μ-loop → lts.Start (claims t) (at t) count-nodes.Post Inv-loop μ-loop
+  asked c = c .before .before .before .before .before
 
-search-requires : (t : ℕ) → lts.Need-search-requires (claims t) (at t) count-nodes.Post Inv-loop μ-loop
-search-requires t c κs = (c .before .before .before .pre .1 .0, c .before .before .before .pre .1 .1 .start, c .before .before .before .pre .1 .1 .end)
+  abbrev searched : lts.At-loop (claims t) (at t) count-nodes.Post Inv-loop μ-loop → lts.After-search (claims t) (at t) count-nodes.Post Inv-loop μ-loop
+  searched c = c .before .before .before .before
 
--- the rule that is found is one of the grammar's
-inside : (t : ℕ) (c : lts.After-search (claims t) (at t) count-nodes.Post Inv-loop μ-loop) → c .search .result < c .before .before .before .before .args .rules
-inside t c = rule-inside _ _ _ _ _ _ (c .before .before .before .before .pre .1 .0) _ _ _ _ (c .before .before .before .before .pre .1 .1) _ (c .search .ensures)
+  -- the rule that is found is one of at most 128
+  inside : (c : lts.After-search (claims t) (at t) count-nodes.Post Inv-loop μ-loop) → c .search .result .rule < 128
+  inside c = let p = asked c .pre .1 in lt-of-lt-of-le (found-inside _ _ _ _ _ _ (p .0) _ _ _ _ (p .1) _ (c .search .ensures)) (p .0 .few)
 
-mul-rule-symbols : (t : ℕ) → lts.Need-mul-rule-symbols (claims t) (at t) count-nodes.Post Inv-loop μ-loop
-mul-rule-symbols t c = omega (arith, inside t c, c .before .before .before .before .pre .1 .0 .few)
+  -- symbol d is one of at most 8
+  few : (c : lts.In-loop (claims t) (at t) count-nodes.Post Inv-loop μ-loop) → c .before .loop .d < 8
+  few c =
+      let r = searched (c .before) in
+      let p = asked r .pre .1 in
+      lt-of-lt-of-le (c .loop-test .taken) (turn-few _ _ _ _ _ _ (p .0) _ _ _ _ (p .1) _ (r .search .ensures) _ (c .before .before .rule-symbols .ensures))
 
-element-copy-out-rule-symbols : (t : ℕ) → lts.Need-element-copy-out-rule-symbols (claims t) (at t) count-nodes.Post Inv-loop μ-loop
-element-copy-out-rule-symbols t c = omega (arith, inside t c, c .before .before .before .before .pre .1 .0 .few)
+  -- the child that it is
+  next : (c : lts.In-loop (claims t) (at t) count-nodes.Post Inv-loop μ-loop) →
+      let r = searched (c .before) in
+      let a = asked r .args in
+      let d = c .before .loop .d in
+      NextChild (grammarGiven (now (a .g))) (now (a .line)) (a .depth - 1) (now (c .before .before .rule-symbols .result)) (a .end) d (getD (r .search .result .ends) d 0) (getD (r .search .result .ends) (d + 1) 0)
+  next c =
+      let r = searched (c .before) in
+      let p = asked r .pre .1 in
+      turn-child _ _ _ _ _ _ (p .0) _ _ _ _ (p .1) _ (r .search .ensures) _ (c .before .before .rule-symbols .ensures) _ (c .loop-test .taken)
 
-rule-symbols-requires : (t : ℕ) → lts.Need-rule-symbols-requires (claims t) (at t) count-nodes.Post Inv-loop μ-loop
-rule-symbols-requires t c κs = c .before .before .before .before .before .pre .1 .0 .stands _ (inside t (c .before))
+  search-requires : lts.Need-search-requires (claims t) (at t) count-nodes.Post Inv-loop μ-loop
+  search-requires c κs = let p = c .before .before .before .before .pre .1 in (p .0, p .1)
 
-sets-before-requires : (t : ℕ) → lts.Need-sets-before-requires (claims t) (at t) count-nodes.Post Inv-loop μ-loop
-sets-before-requires t c κs = (c .before .before .before .before .before .before .pre .1 .0 .short, c .before .before .before .before .before .before .pre .1 .1 .end, turn-few _ _ _ _ _ _ (c .before .before .before .before .before .before .pre .1 .0) _ _ _ _ (c .before .before .before .before .before .before .pre .1 .1) _ (c .before .before .search .ensures) _ (c .rule-symbols .ensures), turn-fit _ _ _ _ _ _ (c .before .before .before .before .before .before .pre .1 .0) _ _ _ _ (c .before .before .before .before .before .before .pre .1 .1) _ (c .before .before .search .ensures) _ (c .rule-symbols .ensures))
+  mul-rule-symbols : lts.Need-mul-rule-symbols (claims t) (at t) count-nodes.Post Inv-loop μ-loop
+  mul-rule-symbols c = omega (arith, inside (c .before))
 
-loop-holds : (t : ℕ) → lts.Need-loop-holds (claims t) (at t) count-nodes.Post Inv-loop μ-loop
-loop-holds t c =
-    let e = c .before .rule-symbols .ensures in
-    count-begin _ _ _ _ _ _ _ (c .before .before .before .search .result) _ (c .before .before .before .before .before .before .before .pre .1 .1 .start) (begins _ _ _ _ _ _ (c .before .before .before .before .before .before .before .pre .1 .0) _ _ _ _ (c .before .before .before .before .before .before .before .pre .1 .1) _ (c .before .before .before .search .ensures) _ e) (ap length (turn-shown _ _ _ _ _ _ (c .before .before .before .before .before .before .before .pre .1 .0) _ _ _ _ (c .before .before .before .before .before .before .before .pre .1 .1) _ (c .before .before .before .search .ensures) _ e))
+  element-copy-out-rule-symbols : lts.Need-element-copy-out-rule-symbols (claims t) (at t) count-nodes.Post Inv-loop μ-loop
+  element-copy-out-rule-symbols c = inside (c .before)
 
-returns : (t : ℕ) → lts.Need-returns (claims t) (at t) count-nodes.Post Inv-loop μ-loop
-returns t c = counting-over (c .if1 .taken) (c .before .before .loop .inv .counting)
+  rule-symbols-requires : lts.Need-rule-symbols-requires (claims t) (at t) count-nodes.Post Inv-loop μ-loop
+  rule-symbols-requires c κs = let r = c .before .before in asked r .pre .1 .0 .stands _ (found-inside _ _ _ _ _ _ (asked r .pre .1 .0) _ _ _ _ (asked r .pre .1 .1) _ (r .search .ensures))
 
-shared-slice-read-symbol : (t : ℕ) → lts.Need-shared-slice-read-symbol (claims t) (at t) count-nodes.Post Inv-loop μ-loop
-shared-slice-read-symbol t c = search needs
+  loop-holds : lts.Need-loop-holds (claims t) (at t) count-nodes.Post Inv-loop μ-loop
+  loop-holds c =
+      let r = c .before .before .before in
+      let p = asked r .pre .1 in
+      count-begin _ _ _ _ _ _ _ (r .search .result .rule) (asked r .args .start) (getD (r .search .result .ends) 0 0) (ap length (turn-shown _ _ _ _ _ _ (p .0) _ _ _ _ (p .1) _ (r .search .ensures) _ (c .rule-symbols .ensures)))
 
-cast-symbol : (t : ℕ) → lts.Need-cast-symbol (claims t) (at t) count-nodes.Post Inv-loop μ-loop
-cast-symbol t c = omega (arith, c .shared-slice-known4 .given (c .before .before .before .loop .d))
+  returns : lts.Need-returns (claims t) (at t) count-nodes.Post Inv-loop μ-loop
+  returns c = counting-over (c .if1 .taken) (c .before .before .loop .inv .counting)
 
--- symbol d is one of at most 8
-few : (t : ℕ) (c : lts.After-shared-slice-known4 (claims t) (at t) count-nodes.Post Inv-loop μ-loop) → c .before .before .before .loop .d < 8
-few t c = omega (arith, turn-few _ _ _ _ _ _ (c .before .before .before .before .before .before .before .before .before .before .before .pre .1 .0) _ _ _ _ (c .before .before .before .before .before .before .before .before .before .before .before .pre .1 .1) _ (c .before .before .before .before .before .before .before .search .ensures) _ (c .before .before .before .before .before .rule-symbols .ensures), c .before .before .loop-test .taken)
+  shared-slice-read-symbol : lts.Need-shared-slice-read-symbol (claims t) (at t) count-nodes.Post Inv-loop μ-loop
+  shared-slice-read-symbol c = search needs
 
-add-first-end : (t : ℕ) → lts.Need-add-first-end (claims t) (at t) count-nodes.Post Inv-loop μ-loop
-add-first-end t c = omega (arith, few t c)
+  cast-symbol : lts.Need-cast-symbol (claims t) (at t) count-nodes.Post Inv-loop μ-loop
+  cast-symbol c = omega (arith, c .shared-slice-known5 .given (c .before .before .before .loop .d))
 
-mul-first-end : (t : ℕ) → lts.Need-mul-first-end (claims t) (at t) count-nodes.Post Inv-loop μ-loop
-mul-first-end t c = omega (arith, few t c)
+  add-count : lts.Need-add-count (claims t) (at t) count-nodes.Post Inv-loop μ-loop
+  add-count c = let l = c .before .before .before .before in omega (arith, c .before .before .if1 .left, asked (searched l) .pre .1 .2)
 
-array-read-first-end : (t : ℕ) → lts.Need-array-read-first-end (claims t) (at t) count-nodes.Post Inv-loop μ-loop
-array-read-first-end t c = omega (arith, few t c)
+  mul-m : lts.Need-mul-m (claims t) (at t) count-nodes.Post Inv-loop μ-loop
+  mul-m c = omega (arith, few (c .before .before .before))
 
-first-end-requires : (t : ℕ) → lts.Need-first-end-requires (claims t) (at t) count-nodes.Post Inv-loop μ-loop
-first-end-requires t c κs = (c .before .before .before .before .before .before .before .before .before .before .before .pre .1 .0 .short, c .before .before .before .loop .inv .inside, turn-fit _ _ _ _ _ _ (c .before .before .before .before .before .before .before .before .before .before .before .pre .1 .0) _ _ _ _ (c .before .before .before .before .before .before .before .before .before .before .before .pre .1 .1) _ (c .before .before .before .before .before .before .before .search .ensures) _ (c .before .before .before .before .before .rule-symbols .ensures) _ (c .before .before .loop-test .taken))
+  array-read-m : lts.Need-array-read-m (claims t) (at t) count-nodes.Post Inv-loop μ-loop
+  array-read-m c = omega (arith, few (c .before .before .before))
 
--- the child that symbol d is
-next : (t : ℕ) (c : lts.After-first-end (claims t) (at t) count-nodes.Post Inv-loop μ-loop) →
-    let a = c .before .before .before .before .before .before .before .before .before .before .before .before .args in
-    NextChild (grammarGiven (now (a .g))) (now (a .line)) (a .depth - 1) (now (c .before .before .before .before .before .before .rule-symbols .result)) (a .end) (c .before .before .before .before .loop .d) (c .before .before .before .before .loop .m) (c .first-end .result)
-next t c = turn-child _ _ _ _ _ _ (c .before .before .before .before .before .before .before .before .before .before .before .before .pre .1 .0) _ _ _ _ (c .before .before .before .before .before .before .before .before .before .before .before .before .pre .1 .1) _ (c .before .before .before .before .before .before .before .before .search .ensures) _ (c .before .before .before .before .before .before .rule-symbols .ensures) _ (c .before .before .before .before .before .sets-before .ensures) _ _ _ (c .before .before .before .loop-test .taken) (c .before .before .before .before .loop .inv .inside) (c .before .before .before .before .loop .inv .left) (c .first-end .ensures)
+  add-e : lts.Need-add-e (claims t) (at t) count-nodes.Post Inv-loop μ-loop
+  add-e c = omega (arith, few (c .before .before .before))
 
-add-count : (t : ℕ) → lts.Need-add-count (claims t) (at t) count-nodes.Post Inv-loop μ-loop
-add-count t c = omega (arith, c .before .before .before .if1 .left, c .before .before .before .before .before .before .before .before .before .before .before .before .before .pre .1 .2)
+  mul-e : lts.Need-mul-e (claims t) (at t) count-nodes.Post Inv-loop μ-loop
+  mul-e c = omega (arith, few (c .before .before .before))
 
-depth-at-requires : (t : ℕ) → lts.Need-depth-at-requires (claims t) (at t) count-nodes.Post Inv-loop μ-loop
-depth-at-requires t c κs = (c .before .before .before .before .before .before .before .before .before .before .before .before .before .pre .1 .0 .short, c .before .before .before .before .before .loop .inv .inside, next t (c .before) .inside, turn-fit _ _ _ _ _ _ (c .before .before .before .before .before .before .before .before .before .before .before .before .before .pre .1 .0) _ _ _ _ (c .before .before .before .before .before .before .before .before .before .before .before .before .before .pre .1 .1) _ (c .before .before .before .before .before .before .before .before .before .search .ensures) _ (c .before .before .before .before .before .before .before .rule-symbols .ensures) _ (c .before .before .before .before .loop-test .taken) (c .if2 .left))
+  array-read-e : lts.Need-array-read-e (claims t) (at t) count-nodes.Post Inv-loop μ-loop
+  array-read-e c = omega (arith, few (c .before .before .before))
 
-count-nodes-requires : (t : ℕ) → lts.Need-count-nodes-requires (claims t) (at t) count-nodes.Post Inv-loop μ-loop
-count-nodes-requires t c κs =
-    let n = child-node _ _ _ _ _ _ (c .before .before .before .before .before .before .before .before .before .before .before .before .before .before .pre .1 .0) _ _ _ _ (c .before .before .before .before .before .before .before .before .before .before .before .before .before .before .pre .1 .1) _ (c .before .before .before .before .before .before .before .before .before .before .search .ensures) _ (c .before .before .before .before .before .before .before .before .rule-symbols .ensures) _ (c .before .before .before .before .before .before .before .sets-before .ensures) _ _ _ (c .before .before .before .before .before .loop-test .taken) (c .before .before .before .before .before .before .loop .inv .inside) (c .before .before .before .before .before .before .loop .inv .left) (c .before .before .first-end .ensures) (c .before .if2 .left) in
-    let e = c .depth-at .ensures in
-    (omega (arith, e, n .1, c .before .before .before .before .before .before .before .before .before .before .before .before .before .before .pre .0), (c .before .before .before .before .before .before .before .before .before .before .before .before .before .before .pre .1 .0, rw e (n .0), omega (arith, c .before .before .before .before .before .before .before .before .before .before .before .before .before .before .pre .1 .2)))
+  depth-at-requires : lts.Need-depth-at-requires (claims t) (at t) count-nodes.Post Inv-loop μ-loop
+  depth-at-requires c κs =
+      let i = c .before .before .before in
+      let r = searched (i .before) in
+      let p = asked r .pre .1 in
+      (p .0 .short, next i .start, next i .inside, turn-fit _ _ _ _ _ _ (p .0) _ _ _ _ (p .1) _ (r .search .ensures) _ (i .before .before .rule-symbols .ensures) _ (i .loop-test .taken) (c .if2 .left))
 
-add-count-2 : (t : ℕ) → lts.Need-add-count-2 (claims t) (at t) count-nodes.Post Inv-loop μ-loop
-add-count-2 t c = omega (arith, c .count-nodes .ensures .most, c .before .before .before .before .before .if1 .left, c .before .before .before .before .before .before .before .before .before .before .before .before .before .before .before .pre .1 .2)
+  count-nodes-requires : lts.Need-count-nodes-requires (claims t) (at t) count-nodes.Post Inv-loop μ-loop
+  count-nodes-requires c κs =
+      let i = c .before .before .before .before in
+      let r = searched (i .before) in
+      let p = asked r .pre in
+      let e = c .depth-at .ensures in
+      let n = child-node _ _ _ _ _ _ (p .1 .0) _ _ _ _ (p .1 .1) _ (r .search .ensures) _ (i .before .before .rule-symbols .ensures) _ (i .loop-test .taken) (c .before .if2 .left) in
+      (omega (arith, e, n .1, p .0), (p .1 .0, rw e (n .0), omega (arith, p .1 .2)))
 
-add-d : (t : ℕ) → lts.Need-add-d (claims t) (at t) count-nodes.Post Inv-loop μ-loop
-add-d t c = omega (arith, c .before .before .before .before .loop-test .taken, turn-few _ _ _ _ _ _ (c .before .before .before .before .before .before .before .before .before .before .before .before .before .pre .1 .0) _ _ _ _ (c .before .before .before .before .before .before .before .before .before .before .before .before .before .pre .1 .1) _ (c .before .before .before .before .before .before .before .before .before .search .ensures) _ (c .before .before .before .before .before .before .before .rule-symbols .ensures))
+  add-count-2 : lts.Need-add-count-2 (claims t) (at t) count-nodes.Post Inv-loop μ-loop
+  add-count-2 c =
+      let o = c .before .before .before .before in
+      omega (arith, c .count-nodes .ensures .most, o .if1 .left, asked (searched (o .before .before)) .pre .1 .2)
 
-loop-less : (t : ℕ) → lts.Need-loop-less (claims t) (at t) count-nodes.Post Inv-loop μ-loop
-loop-less t c = omega (arith, c .before .before .before .before .loop-test .taken)
+  add-d : lts.Need-add-d (claims t) (at t) count-nodes.Post Inv-loop μ-loop
+  add-d c = omega (arith, few (c .before .before .before))
 
-loop-again : (t : ℕ) → lts.Need-loop-again (claims t) (at t) count-nodes.Post Inv-loop μ-loop
-loop-again t c =
-    let l = c .before .before .before .before .before .loop in
-    let k = c .before .before .before .before .loop-test .taken in
-    let low = c .before .before .before .if1 .left in
-    ⊎-elim
-    (λ w. rw (w .1) (count-token _ _ _ _ _ _ _ (l .d) (l .m) _ (l .count) k low (next t (c .before)) (l .inv) (w .0 .taken)))
-    (λ w. rw (w .3) (count-category _ _ _ _ _ _ _ (l .d) (l .m) _ (l .count) k low (next t (c .before)) (l .inv) (w .0 .left) _ (w .2 .ensures)))
-    (c .if2 .came)
+  loop-less : lts.Need-loop-less (claims t) (at t) count-nodes.Post Inv-loop μ-loop
+  loop-less c = omega (arith, c .before .before .before .loop-test .taken)
 
-returns-2 : (t : ℕ) → lts.Need-returns-2 (claims t) (at t) count-nodes.Post Inv-loop μ-loop
-returns-2 t c = count-end _ _ _ _ _ _ _ (c .before .loop .d) _ _ (c .loop-test .left) (c .before .loop .inv)
+  loop-again : lts.Need-loop-again (claims t) (at t) count-nodes.Post Inv-loop μ-loop
+  loop-again c =
+      let o = c .before .before in
+      let i = o .before in
+      let l = i .before .loop in
+      let k = i .loop-test .taken in
+      ⊎-elim
+      (λ w. rw (w .1) (count-token _ _ _ _ _ _ _ (l .d) _ _ (l .count) k (o .if1 .left) (next i) (l .inv) (w .0 .taken)))
+      (λ w. rw (w .3) (count-category _ _ _ _ _ _ _ (l .d) _ _ (l .count) k (o .if1 .left) (next i) (l .inv) (w .0 .left) _ (w .2 .ensures)))
+      (c .if2 .came)
+
+  returns-2 : lts.Need-returns-2 (claims t) (at t) count-nodes.Post Inv-loop μ-loop
+  returns-2 c = count-end _ _ _ _ _ _ _ (c .before .loop .d) _ _ (c .loop-test .left) (c .before .loop .inv)
 
 pub +count-nodes-spec : {M : Type 1} → statement M
 +count-nodes-spec = close μ λ t. lts.spec (claims t) (at t) count-nodes.Post Inv-loop μ-loop
-    (sub-h t)
     (search-requires t)
     (mul-rule-symbols t)
     (element-copy-out-rule-symbols t)
     (rule-symbols-requires t)
-    (sets-before-requires t)
     (loop-holds t)
     (returns t)
     (shared-slice-read-symbol t)
     (cast-symbol t)
-    (add-first-end t)
-    (mul-first-end t)
-    (array-read-first-end t)
-    (first-end-requires t)
     (add-count t)
+    (mul-m t)
+    (array-read-m t)
+    (add-e t)
+    (mul-e t)
+    (array-read-e t)
     (depth-at-requires t)
     (count-nodes-requires t)
     (add-count-2 t)

@@ -1,62 +1,103 @@
--- `tree::division::first_end` meets its contract. The loop's invariant: no end before this one passes.
-use Prim.Native.Nat.{ℕ, suc, _-_, _≤_, _<_}
-use mathlib.Core.Path.{_≡_, sym, _∙_}
-use mathlib.Core.Logic.{⊎-elim}
-use mathlib.Core.Bool.{false}
-use native.Mathlib.Nat.{eq-or-lt-of-le, le-of-suc-le-suc}
-use native.Mathlib.Numerals.{add-one}
+-- `tree::division::first_end` meets its contract, by the kind of symbol.
+use Prim.Native.Nat.{ℕ, _+_, _-_, _*_, _<_}
 use native.Mathlib.Omega.{arith}
 use lib.ListN.{length}
-use Rattle.tree.specs.Kept.{keptBelow}
-use Rattle.tree.specs.Sets.{leads}
+use denote.Ref.{now}
 use borrow.Author.Needs.{needs}
+use Rattle.positions.proofs.Members.{and-member, member-true, member-false}
+use Rattle.tree.specs.Kept.{rowAt}
+use Rattle.tree.proofs.DivisionLaws.{row-place, depth-place}
+use Rattle.tree.proofs.SetLaws.{end-category, end-past, end-other, end-out, end-next}
 use Rattle.tree.proofs.division.first_end.Statement.{statement}
 use Rattle.tree.proofs.division.first_end.Tie as tie
 
-abbrev Inv-loop : tie.InvT-loop
-Inv-loop symbol line depths h set start end₀ end =
-    (start ≤ end) × (end ≤ suc (length line)) × ((e : ℕ) → start ≤ e → e < end → leads line (keptBelow (length line) depths h) symbol set start e ≡ false)
+-- the places of the category's row and of its depths
+module _ (c : tie.Then1) where
+  abbrev asked : tie.Start
+  asked = c .before .before .before .before
 
-abbrev μ-loop : tie.MeasureT-loop
-μ-loop symbol line depths h set start end₀ end = suc (length line) - end
+  place : (asked .args .symbol - 128) * (length (now (asked .args .line)) + 1) + asked .args .start < length (now (asked .args .words))
+  place = row-place _ _ _ _ (asked .pre .1) (asked .pre .3 (c .if1 .taken) .0)
 
-loop-holds : tie.Need-loop-holds Inv-loop μ-loop
-loop-holds c = (omega arith, omega arith, λ e l k. absurd (omega arith))
+  first-depth : ((asked .args .symbol - 128) * (length (now (asked .args .line)) + 1) + asked .args .start) * (length (now (asked .args .line)) + 1) + 0 < length (now (asked .args .depths))
+  first-depth = depth-place _ _ _ _ 0 (asked .pre .1) (omega arith) (asked .pre .3 (c .if1 .taken) .1)
 
-leads-to-requires : tie.Need-leads-to-requires Inv-loop μ-loop
-leads-to-requires c κs = search needs
+add-width : tie.Need-add-width
+add-width c = search needs
 
-returns : tie.Need-returns Inv-loop μ-loop
+mul-row : tie.Need-mul-row
+mul-row c = omega (arith, place c)
+
+add-row : tie.Need-add-row
+add-row c = omega (arith, place c)
+
+mul-shallow-end : tie.Need-mul-shallow-end
+mul-shallow-end c = omega (arith, first-depth c)
+
+mul-shallow-end-2 : tie.Need-mul-shallow-end-2
+mul-shallow-end-2 c = omega (arith, place c)
+
+shared-slice-read-shallow-end : tie.Need-shared-slice-read-shallow-end
+shared-slice-read-shallow-end c = place (c .before)
+
+shallow-end-requires : tie.Need-shallow-end-requires
+shallow-end-requires c κs e m =
+    let s = asked (c .before) in
+    let row = rowAt (now (s .args .words)) (length (now (s .args .line))) (s .args .symbol - 128) (s .args .start) in
+    depth-place (length (now (s .args .line))) _ (s .args .symbol - 128) (s .args .start) e (s .pre .1) (s .pre .2 e (and-member row (s .args .set) e .0 m .1)) (s .pre .3 (c .before .if1 .taken) .1)
+
+returns : tie.Need-returns
 returns c =
-    let l = c .before .before .before .loop in
-    record { after = l .inv .0; within = l .inv .1; none = l .inv .2; found = λ k. sym (c .before .leads-to .ensures) ∙ c .if1 .taken }
+    let s = asked (c .before .before) in
+    end-category _ _ _ _ _ _ _ _ (c .before .before .if1 .taken) (s .pre .1) (s .pre .2) (c .shallow-end .ensures)
 
-add-end : tie.Need-add-end Inv-loop μ-loop
-add-end c = search needs
+returns-2 : tie.Need-returns-2
+returns-2 c = end-past _ _ _ _ _ _ _ (c .before .if1 .left) (c .if2 .taken)
 
-loop-less : tie.Need-loop-less Inv-loop μ-loop
-loop-less c = search needs
+shared-slice-read-if3 : tie.Need-shared-slice-read-if3
+shared-slice-read-if3 c = search needs
 
-loop-again : tie.Need-loop-again Inv-loop μ-loop
-loop-again c =
-    let l = c .before .before .before .loop in
-    (omega arith, omega arith, λ e a b. ⊎-elim (λ (q : e ≡ l .end). rw q (sym (c .before .leads-to .ensures) ∙ c .if1 .left)) (λ k. l .inv .2 e a k) (eq-or-lt-of-le (le-of-suc-le-suc (rw add-one at b))))
+cast-if3 : tie.Need-cast-if3
+cast-if3 c = omega (arith, c .shared-slice-known5 .given (c .before .before .before .before .before .before .args .start))
 
-returns-2 : tie.Need-returns-2 Inv-loop μ-loop
-returns-2 c =
-    let l = c .before .loop in
-    record { after = l .inv .0; within = l .inv .1; none = l .inv .2; found = λ k. absurd (omega arith) }
+returns-3 : tie.Need-returns-3
+returns-3 c = end-other _ _ _ _ _ _ _ (c .before .before .before .if1 .left) (c .if3 .taken)
+
+add-member : tie.Need-add-member
+add-member c = search needs
+
+member-requires : tie.Need-member-requires
+member-requires c κs = search needs
+
+add-result : tie.Need-add-result
+add-result c = search needs
+
+returns-4 : tie.Need-returns-4
+returns-4 c =
+    let o = c .before .before in
+    end-next _ _ _ _ _ _ _ (o .before .before .before .if1 .left) (o .before .before .if2 .left) (o .if3 .left) (member-true _ _ (c .before .member .ensures) (c .if4 .taken))
+
+returns-5 : tie.Need-returns-5
+returns-5 c = end-out _ _ _ _ _ _ _ (c .before .before .before .before .before .if1 .left) (member-false _ _ (c .before .member .ensures) (c .if4 .left))
 
 pub first-end-spec : {M : Type 1} → statement M
 first-end-spec =
     tie.close
     (tie.spec
-    Inv-loop
-    μ-loop
-    loop-holds
-    leads-to-requires
+    add-width
+    mul-row
+    add-row
+    mul-shallow-end
+    mul-shallow-end-2
+    shared-slice-read-shallow-end
+    shallow-end-requires
     returns
-    add-end
-    loop-less
-    loop-again
-    returns-2)
+    returns-2
+    shared-slice-read-if3
+    cast-if3
+    returns-3
+    add-member
+    member-requires
+    add-result
+    returns-4
+    returns-5)

@@ -1,21 +1,25 @@
 -- `tree::division::sets_before` meets its contract. The loop's invariant: the sets from d on are made.
-use mathlib.Core.Path.{refl}
+use Prim.Native.Nat.{ℕ, _-_, _≤_, _<_}
+use mathlib.Core.Path.{_≡_, refl, sym, _∙_}
 use mathlib.Core.List.{replicate}
 use native.Mathlib.Omega.{arith}
-use lib.ListN.{length}
-use Prim.Native.Nat.{_-_}
+use lib.ListN.{length, getD, length-set}
+use lib.Seq.{getD-set-same}
+use denote.Ref.{now}
 use Rattle.filling.proofs.TableLaws.{zeros-at}
-use Rattle.tree.specs.Kept.{keptBelow}
-use Rattle.tree.proofs.DivisionLaws.{SetsFrom, sets-none, sets-more, sets-all}
+use Rattle.tree.proofs.SetLaws.{SetsFrom, sets-none, sets-more, sets-empty, sets-all}
 use borrow.Author.Needs.{needs}
 use Rattle.tree.proofs.division.sets_before.Statement.{statement}
 use Rattle.tree.proofs.division.sets_before.Tie as tie
 
 abbrev Inv-loop : tie.InvT-loop
-Inv-loop symbols line depths h end sets₀ d₀ sets d = SetsFrom symbols line (keptBelow (length line) depths h) end d sets
+Inv-loop symbols line words depths h start end sets₀ d₀ set₀ sets d set = (length sets ≡ 9) × (set ≡ getD sets d 0) × SetsFrom line words depths h symbols start end d sets
 
 abbrev μ-loop : tie.MeasureT-loop
-μ-loop symbols line depths h end sets₀ d₀ sets d = d
+μ-loop symbols line words depths h start end sets₀ d₀ set₀ sets d set = d
+
+abbrev asked : tie.At-loop Inv-loop μ-loop → tie.Start Inv-loop μ-loop
+asked c = c .before .before .before .before .before .before
 
 insert-requires : tie.Need-insert-requires Inv-loop μ-loop
 insert-requires c κs = search needs
@@ -27,43 +31,61 @@ array-write-sets : tie.Need-array-write-sets Inv-loop μ-loop
 array-write-sets c = search needs
 
 loop-holds : tie.Need-loop-holds Inv-loop μ-loop
-loop-holds c = sets-none _ _ _ _ (c .before .before .before .before .pre .2) (replicate 9 0) (c .insert .result) refl (zeros-at 9) (c .insert .ensures)
+loop-holds c =
+    let p = c .before .before .before .before .before .pre in (
+      simp length-set,
+      sym (getD-set-same (replicate 9 0) (length (now (c .before .before .before .before .before .args .symbols))) (c .insert .result) 0 (omega (arith, p .3))),
+      sets-none _ _ _ _ _ _ _ (p .3) (replicate 9 0) (c .insert .result) refl (zeros-at 9) (p .1) (p .2) (c .insert .ensures),
+    )
+
+returns : tie.Need-returns Inv-loop μ-loop
+returns c =
+    let l = c .before .before in
+    sets-empty _ _ _ _ _ _ _ (asked l .pre .3) _ _ (l .loop .inv .0) (l .loop .inv .2) (sym (l .loop .inv .1) ∙ c .if1 .taken)
 
 sub-d : tie.Need-sub-d Inv-loop μ-loop
 sub-d c = search needs
 
+-- symbol d - 1 is one of at most 8
+few : (c : tie.Else1 Inv-loop μ-loop) →
+    let l = c .before .before in
+    (l .loop .d - 1 < length (now (asked l .args .symbols))) × (l .loop .d ≤ 8)
+few c = let l = c .before .before in (omega (arith, c .before .loop-test .taken, l .loop .inv .2 .low), omega (arith, asked l .pre .3, l .loop .inv .2 .low))
+
 shared-slice-read-starts-before : tie.Need-shared-slice-read-starts-before Inv-loop μ-loop
-shared-slice-read-starts-before c = omega (arith, c .before .before .before .before .before .before .before .pre .2, c .before .before .loop .inv .low, c .before .before .loop .inv .long, c .before .loop-test .taken)
+shared-slice-read-starts-before c = few (c .before) .0
 
 cast-starts-before : tie.Need-cast-starts-before Inv-loop μ-loop
-cast-starts-before c = omega (arith, c .shared-slice-known4 .given (c .before .before .loop .d - 1))
-
-add-starts-before : tie.Need-add-starts-before Inv-loop μ-loop
-add-starts-before c = omega (arith, c .before .before .before .before .before .before .before .pre .2, c .before .before .loop .inv .low, c .before .before .loop .inv .long, c .before .loop-test .taken)
-
-mul-starts-before : tie.Need-mul-starts-before Inv-loop μ-loop
-mul-starts-before c = omega (arith, c .before .before .before .before .before .before .before .pre .2, c .before .before .loop .inv .low, c .before .before .loop .inv .long, c .before .loop-test .taken)
-
-array-read-starts-before : tie.Need-array-read-starts-before Inv-loop μ-loop
-array-read-starts-before c = omega (arith, c .before .before .before .before .before .before .before .pre .2, c .before .before .loop .inv .low, c .before .before .loop .inv .long, c .before .loop-test .taken)
+cast-starts-before c = omega (arith, c .shared-slice-known5 .given (c .before .before .before .loop .d - 1))
 
 starts-before-requires : tie.Need-starts-before-requires Inv-loop μ-loop
-starts-before-requires c κs = let p = c .before .before .before .before .before .before .before .pre in (p .0, p .3 (c .before .before .loop .d - 1) (omega (arith, c .before .before .loop .inv .low, c .before .loop-test .taken)))
+starts-before-requires c κs =
+    let l = c .before .before .before in
+    let p = asked l .pre in
+    (p .0, p .2, λ e m. l .loop .inv .2 .inside _ e (rw (l .loop .inv .1) at m), p .4 _ (few (c .before) .0))
 
 mul-sets-2 : tie.Need-mul-sets-2 Inv-loop μ-loop
-mul-sets-2 c = omega (arith, c .before .before .before .before .before .before .before .before .pre .2, c .before .before .before .loop .inv .low, c .before .before .before .loop .inv .long, c .before .before .loop-test .taken)
+mul-sets-2 c = omega (arith, few (c .before .before))
 
 array-write-sets-2 : tie.Need-array-write-sets-2 Inv-loop μ-loop
-array-write-sets-2 c = omega (arith, c .before .before .before .before .before .before .before .before .pre .2, c .before .before .before .loop .inv .low, c .before .before .before .loop .inv .long, c .before .before .loop-test .taken)
+array-write-sets-2 c = omega (arith, few (c .before .before))
 
 loop-less : tie.Need-loop-less Inv-loop μ-loop
-loop-less c = omega (arith, c .before .before .loop-test .taken)
+loop-less c = omega (arith, c .before .before .before .loop-test .taken)
 
 loop-again : tie.Need-loop-again Inv-loop μ-loop
-loop-again c = sets-more _ _ _ _ (c .before .before .before .before .before .before .before .before .pre .2) (c .before .before .before .loop .d) (c .starts-before .result) (c .before .before .before .loop .sets) (omega (arith, c .before .before .loop-test .taken)) (c .before .before .before .loop .inv) (c .starts-before .ensures)
+loop-again c =
+    let i = c .before .before .before in
+    let l = i .before .loop in (
+      length-set (l .sets) _ _ ∙ l .inv .0,
+      sym (getD-set-same (l .sets) _ (c .starts-before .result) 0 (omega (arith, l .inv .0, few (c .before .before)))),
+      sets-more _ _ _ _ _ _ _ (asked (i .before) .pre .3) (l .d) (l .sets) (l .inv .0) (l .inv .2) _ (i .loop-test .taken) (rw (l .inv .1) at (c .starts-before .ensures)),
+    )
 
-returns : tie.Need-returns Inv-loop μ-loop
-returns c = sets-all _ _ _ _ (c .before .before .before .before .before .before .pre .2) (c .before .loop .d) (c .before .loop .sets) (omega (arith, c .loop-test .left)) (c .before .loop .inv)
+returns-2 : tie.Need-returns-2 Inv-loop μ-loop
+returns-2 c =
+    let l = c .before in
+    sets-all _ _ _ _ _ _ _ (asked l .pre .3) _ _ (l .loop .inv .0) (l .loop .inv .2) (c .loop-test .left)
 
 pub sets-before-spec : {M : Type 1} → statement M
 sets-before-spec =
@@ -75,15 +97,13 @@ sets-before-spec =
     mul-sets
     array-write-sets
     loop-holds
+    returns
     sub-d
     shared-slice-read-starts-before
     cast-starts-before
-    add-starts-before
-    mul-starts-before
-    array-read-starts-before
     starts-before-requires
     mul-sets-2
     array-write-sets-2
     loop-less
     loop-again
-    returns)
+    returns-2)

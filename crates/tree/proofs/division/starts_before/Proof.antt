@@ -1,28 +1,32 @@
 -- `tree::division::starts_before` meets its contract. The loop's invariant: the set has the starts below m.
-use Prim.Native.Nat.{_+_, _-_, _≤_}
+use Prim.Native.Nat.{ℕ, _+_, _-_, _≤_}
 use mathlib.Core.Logic.{⊎-elim}
+use native.Mathlib.Nat.{le-trans}
 use native.Mathlib.Omega.{arith}
-use lib.ListN.{length}
-use Rattle.tree.specs.Kept.{keptBelow}
-use Rattle.tree.proofs.DivisionLaws.{BeforeBelow, before-empty, before-none, before-more, before-skip, before-all}
 use borrow.Author.Needs.{needs}
+use Rattle.tree.proofs.SetLaws.{class-before, BeforeBelow, before-none, before-more, before-skip, before-all}
 use Rattle.tree.proofs.division.starts_before.Statement.{statement}
 use Rattle.tree.proofs.division.starts_before.Tie as tie
 
 abbrev Inv-loop : tie.InvT-loop
-Inv-loop symbol line depths h set starts₀ m₀ starts m = (m ≤ length line + 1) × BeforeBelow line (keptBelow (length line) depths h) symbol set m starts
+Inv-loop symbol line words depths h set start end starts₀ m₀ starts m = BeforeBelow line words depths h symbol set start end m starts
 
 abbrev μ-loop : tie.MeasureT-loop
-μ-loop symbol line depths h set starts₀ m₀ starts m = length line + 1 - m
+μ-loop symbol line words depths h set start end starts₀ m₀ starts m = end + 1 - m
+
+class-starts-requires : tie.Need-class-starts-requires Inv-loop μ-loop
+class-starts-requires c κs = let p = c .before .before .before .before .pre in (p .0, λ e m. le-trans (p .2 e m) (p .1))
 
 returns : tie.Need-returns Inv-loop μ-loop
-returns c = rw (c .if1 .taken) (before-empty _ _ _)
+returns c = let p = c .before .before .before .before .before .pre in class-before _ _ _ _ _ _ _ _ _ (c .before .if1 .taken) (p .1) (p .2) (c .class-starts .ensures)
 
 loop-holds : tie.Need-loop-holds Inv-loop μ-loop
-loop-holds c = (omega arith, before-none _ _ _ _)
+loop-holds c = before-none _ _ _ _ _ _ _ _
 
 first-end-requires : tie.Need-first-end-requires Inv-loop μ-loop
-first-end-requires c κs = search needs
+first-end-requires c κs =
+    let p = c .before .before .before .before .before .before .pre in
+    (p .0, le-trans (c .loop-test .taken) (p .1), λ e m. le-trans (p .2 e m) (p .1), p .3)
 
 insert-requires : tie.Need-insert-requires Inv-loop μ-loop
 insert-requires c κs = search needs
@@ -35,14 +39,17 @@ loop-less c = search needs
 
 loop-again : tie.Need-loop-again Inv-loop μ-loop
 loop-again c =
-    let l = c .before .before .before .loop in
+    let i = c .before .before in
+    let l = i .before .loop in
+    let p = i .before .before .before .before .before .before .pre in
     let f = c .before .first-end .ensures in
-    (omega arith, ⊎-elim (λ p. rw (p .2) (before-more _ _ _ _ (l .m) (l .starts) _ _ f (p .0 .taken) (p .1 .ensures) (l .inv .1))) (λ p. rw (p .1) (before-skip _ _ _ _ (l .m) (l .starts) _ f (p .0 .left) (l .inv .1))) (c .if2 .came))
+    ⊎-elim
+    (λ w. rw (w .2) (before-more _ _ _ _ _ _ _ _ (l .m) (l .starts) _ (i .loop-test .taken) f (l .inv) _ (w .0 .taken) (w .1 .ensures)))
+    (λ w. rw (w .1) (before-skip _ _ _ _ _ _ _ _ (l .m) (l .starts) _ (i .loop-test .taken) f (l .inv) (w .0 .left) (p .2) (le-trans (p .1) (p .0))))
+    (c .if2 .came)
 
 returns-2 : tie.Need-returns-2 Inv-loop μ-loop
-returns-2 c =
-    let l = c .before .loop in
-    before-all _ _ _ _ (l .m) (l .starts) (omega arith) (l .inv .1)
+returns-2 c = before-all _ _ _ _ _ _ _ _ _ _ (c .loop-test .left) (c .before .before .before .before .before .before .pre .2) (c .before .loop .inv)
 
 pub starts-before-spec : {M : Type 1} → statement M
 starts-before-spec =
@@ -50,6 +57,7 @@ starts-before-spec =
     (tie.spec
     Inv-loop
     μ-loop
+    class-starts-requires
     returns
     loop-holds
     first-end-requires

@@ -1,121 +1,164 @@
--- `tree::search::search` meets its contract. The invariants: no rule before p serves; of rule p, no first end before this one.
-use Prim.Native.Nat.{ℕ, _-_, _≤_, _<_}
-use mathlib.Core.Path.{_≡_, sym, _∙_}
-use mathlib.Core.Logic.{⊎-elim}
-use mathlib.Core.Bool.{false}
-use native.Mathlib.Nat.{eq-or-lt-of-le, le-of-suc-le-suc}
+-- `tree::search::search` meets its contract. The invariants: the chosen rule is not before p; of rule p, the ends of the first d symbols are chosen.
+use Prim.Native.Nat.{_-_, _≤_, _<_}
+use mathlib.Core.Path.{refl}
+use native.Mathlib.Nat.{le-trans, lt-of-lt-of-le}
 use native.Mathlib.Numerals.{add-one}
 use native.Mathlib.Omega.{arith}
 use lib.ListN.{length}
 use denote.Ref.{now}
+use Rattle.derivation.specs.Table.{depthOf}
+use Rattle.derivation.specs.Shown.{chosenRule}
 use Rattle.grammar.specs.Given.{grammarGiven}
-use Rattle.tree.specs.Kept.{keptBelow}
-use Rattle.tree.specs.Sets.{division}
-use Rattle.tree.proofs.RuleLaws.{NoneServes, past-after, past-inside, symbols-few, symbols-fit, search-skip, search-more, search-found, search-none}
+use Rattle.tree.proofs.SearchLaws.{SearchTurn, symbols-few, symbols-known, symbols-fit, node-rises, rule-inside, rule-after, rule-found, turn-begin, turn-inside, turn-fails, turn-whole, turn-next}
 use borrow.Author.Needs.{needs}
+use borrow.Author.Tests.{not-true, not-false}
 use Rattle.tree.proofs.search.search.Statement.{statement}
 use Rattle.tree.proofs.search.search.Tie as tie
 
 abbrev Inv-loop : tie.InvT-loop
-Inv-loop g starts rules line depths category start end h p at symbols sets past first₀ first = (start ≤ first) × (first ≤ past) × ((m : ℕ) → start ≤ m → m < first → division symbols line (keptBelow (length line) depths h) sets start end m ≡ false)
+Inv-loop g starts line words depths category start end depth h p at symbols sets ends₀ m₀ d₀ ends m d = SearchTurn (grammarGiven g) line h symbols start end ends m d
 
 abbrev μ-loop : tie.MeasureT-loop
-μ-loop g starts rules line depths category start end h p at symbols sets past first₀ first = past - first
+μ-loop g starts line words depths category start end depth h p at symbols sets ends₀ m₀ d₀ ends m d = length symbols - d
 
 abbrev Inv-search : tie.InvT-search
-Inv-search g starts rules line depths category start end h p₀ p = (p ≤ rules) × NoneServes (grammarGiven g) line h category start end p
+Inv-search g starts line words depths category start end depth h p₀ p = p ≤ chosenRule (grammarGiven g) line (depthOf (grammarGiven g) line) h category start end
 
 abbrev μ-search : tie.MeasureT-search
-μ-search g starts rules line depths category start end h p₀ p = rules - p
+μ-search g starts line words depths category start end depth h p₀ p = length (grammarGiven g .rules) - p
+
+abbrev asked : tie.At-search Inv-loop μ-loop Inv-search μ-search → tie.Start Inv-loop μ-loop Inv-search μ-search
+asked c = c .before .before .before .before .before
+
+-- rule p is one of the grammar's, and stands where its start says
+module _ (c : tie.At-search Inv-loop μ-loop Inv-search μ-search) where
+  inside : c .search .p < length (grammarGiven (now (asked c .args .g)) .rules)
+  inside = rule-inside _ _ _ _ _ _ (asked c .pre .0) _ _ _ _ (asked c .pre .1) _ (c .search .inv)
+
+  few : c .search .p < 128
+  few = omega (arith, inside, asked c .pre .0 .few)
+
+sub-h : tie.Need-sub-h Inv-loop μ-loop Inv-search μ-search
+sub-h c = omega (arith, c .before .before .before .before .pre .1 .fact)
 
 search-holds : tie.Need-search-holds Inv-loop μ-loop Inv-search μ-search
-search-holds c = (omega arith, λ q l. absurd (omega arith))
+search-holds c = omega arith
 
 mul-at : tie.Need-mul-at Inv-loop μ-loop Inv-search μ-search
-mul-at c = omega (arith, c .before .before .before .before .before .pre .0 .few)
+mul-at c = omega (arith, few c)
 
 element-copy-out-at : tie.Need-element-copy-out-at Inv-loop μ-loop Inv-search μ-search
-element-copy-out-at c = omega (arith, c .before .before .before .before .before .pre .0 .few)
+element-copy-out-at c = few c
 
-rule-left-requires : tie.Need-rule-left-requires Inv-loop μ-loop Inv-search μ-search
-rule-left-requires c κs = c .before .before .before .before .before .before .pre .0 .stands (c .before .before .search .p) (c .before .if1 .left)
-
-cast-if2 : tie.Need-cast-if2 Inv-loop μ-loop Inv-search μ-search
-cast-if2 c = search needs
+may-serve-requires : tie.Need-may-serve-requires Inv-loop μ-loop Inv-search μ-search
+may-serve-requires c κs =
+    let s = asked (c .before) in
+    let k = inside (c .before) in
+    (s .pre .0 .stands _ k, s .pre .0 .short, s .pre .1 .start, λ l a. symbols-fit _ _ _ _ _ _ (s .pre .0) _ k 0 l a .0)
 
 add-p : tie.Need-add-p Inv-loop μ-loop Inv-search μ-search
-add-p c = search needs
+add-p c = omega (arith, few (c .before .before .before))
 
 search-less : tie.Need-search-less Inv-loop μ-loop Inv-search μ-search
-search-less c = omega (arith, c .before .before .before .if1 .left)
+search-less c = omega (arith, inside (c .before .before .before))
 
 search-again : tie.Need-search-again Inv-loop μ-loop Inv-search μ-search
 search-again c =
-    let s = c .before .before .before .before .before .before .before .before in
-    let l = c .before .before .before .before .search in
-    let k = c .before .before .before .if1 .left in
-    (omega arith, search-skip _ _ _ _ _ _ (s .pre .0) _ _ _ _ (s .pre .1) (s .pre .2) _ (l .inv .1) k (λ q. c .if2 .taken (c .before .rule-left .ensures ∙ q)))
+    let r = c .before .before .before in
+    let s = asked r in
+    rule-after _ _ _ _ _ _ (s .pre .0) _ _ _ _ (s .pre .1) _ (r .search .inv) _ refl (λ e v. c .before .may-serve .ensures .fails (not-true _ (c .if1 .taken)) e _ (s .pre .0 .work .charted) (λ l. symbols-known _ _ _ _ _ _ (s .pre .0) _ (inside r) 0 l) _ v)
 
 rule-symbols-requires : tie.Need-rule-symbols-requires Inv-loop μ-loop Inv-search μ-search
-rule-symbols-requires c κs = c .before .before .before .before .before .before .before .before .pre .0 .stands (c .before .before .before .before .search .p) (c .before .before .before .if1 .left)
+rule-symbols-requires c κs = let r = c .before .before .before in asked r .pre .0 .stands _ (inside r)
 
 sets-before-requires : tie.Need-sets-before-requires Inv-loop μ-loop Inv-search μ-search
 sets-before-requires c κs =
-    let s = c .before .before .before .before .before .before .before .before .before in
-    let k = c .before .before .before .before .if1 .left in
-    rw (c .rule-symbols .ensures) (s .pre .0 .short, s .pre .2, symbols-few _ _ _ _ _ _ (s .pre .0) _ k, symbols-fit _ _ _ _ _ _ (s .pre .0) _ k)
-
-past-first-requires : tie.Need-past-first-requires Inv-loop μ-loop Inv-search μ-search
-past-first-requires c κs = search needs
+    let r = c .before .before .before .before in
+    let s = asked r in
+    let k = inside r in
+    rw (c .rule-symbols .ensures) (s .pre .0 .short, node-rises _ _ _ _ _ _ (s .pre .0) _ _ _ _ (s .pre .1), s .pre .1 .end, symbols-few _ _ _ _ _ _ (s .pre .0) _ k, symbols-fit _ _ _ _ _ _ (s .pre .0) _ k)
 
 loop-holds : tie.Need-loop-holds Inv-loop μ-loop Inv-search μ-search
-loop-holds c = (omega arith, rw (c .past-first .ensures) (past-after (length (now (c .before .before .rule-symbols .result))) _ _ (c .before .before .before .before .before .before .before .before .before .before .before .pre .1)), λ m a b. absurd (omega arith))
+loop-holds c =
+    let s = asked (c .before .before .before .before .before) in
+    turn-begin _ _ (s .pre .0 .proper) _ _ _ _ (s .pre .0 .short) (s .pre .1 .end)
 
-serves-requires : tie.Need-serves-requires Inv-loop μ-loop Inv-search μ-search
-serves-requires c κs =
-    let s = c .before .before .before .before .before .before .before .before .before .before .before .before .before .before in
-    let k = c .before .before .before .before .before .before .before .before .before .if1 .left in
-    let past = past-inside (length (now (c .before .before .before .before .before .rule-symbols .result))) (s .args .start) (length (now (s .args .line))) (s .pre .1) in
-    let first : c .before .before .loop .first ≤ length (now (s .args .line)) = omega (arith, past, c .before .before .before .past-first .ensures, c .before .loop-test .taken) in
-    (s .pre .0 .short, s .pre .1, first, c .before .before .before .before .sets-before .ensures .long, rw (c .before .before .before .before .before .rule-symbols .ensures) (symbols-fit _ _ _ _ _ _ (s .pre .0) _ k 0))
+-- symbol d is one of at most 8
+abbrev here : tie.At-loop Inv-loop μ-loop Inv-search μ-search → tie.At-search Inv-loop μ-loop Inv-search μ-search
+here l = l .before .before .before .before .before .before
 
-add-first : tie.Need-add-first Inv-loop μ-loop Inv-search μ-search
-add-first c = search needs
+fewer : (c : tie.Else2 Inv-loop μ-loop Inv-search μ-search) → let l = c .before .before in (l .loop .d < length (now (l .before .before .rule-symbols .result))) × (l .loop .d < 8)
+fewer c =
+    let l = c .before .before in
+    let s = asked (here l) in
+    let n = c .if2 .left in
+    let k : l .loop .d < length (now (l .before .before .rule-symbols .result)) = omega (arith, l .loop .inv .low) in
+    (k, lt-of-lt-of-le k (rw (l .before .before .rule-symbols .ensures) (symbols-few _ _ _ _ _ _ (s .pre .0) _ (inside (here l)))))
+
+shared-slice-read-symbol : tie.Need-shared-slice-read-symbol Inv-loop μ-loop Inv-search μ-search
+shared-slice-read-symbol c = fewer (c .before) .0
+
+cast-symbol : tie.Need-cast-symbol Inv-loop μ-loop Inv-search μ-search
+cast-symbol c = omega (arith, c .shared-slice-known5 .given (c .before .before .before .loop .d))
+
+add-d : tie.Need-add-d Inv-loop μ-loop Inv-search μ-search
+add-d c = omega (arith, fewer (c .before) .1)
+
+mul-first-end : tie.Need-mul-first-end Inv-loop μ-loop Inv-search μ-search
+mul-first-end c = omega (arith, fewer (c .before) .1)
+
+array-read-first-end : tie.Need-array-read-first-end Inv-loop μ-loop Inv-search μ-search
+array-read-first-end c = omega (arith, fewer (c .before) .1)
+
+first-end-requires : tie.Need-first-end-requires Inv-loop μ-loop Inv-search μ-search
+first-end-requires c κs =
+    let l = c .before .before .before in
+    let s = asked (here l) in
+    let e = l .before .before .rule-symbols .ensures in
+    let m = turn-inside _ _ (s .pre .0 .proper) _ _ _ _ (s .pre .0 .short) (s .pre .1 .end) _ _ _ (l .loop .inv) (s .pre .1 .start) (c .before .before .loop-test .taken) in
+    (s .pre .0 .short, m, λ x y. le-trans (l .before .sets-before .ensures .inside _ x y) (s .pre .1 .end), (rw (← e) at (symbols-fit _ _ _ _ _ _ (s .pre .0) _ (inside (here l)))) _ (fewer (c .before) .0))
+
+mul-ends : tie.Need-mul-ends Inv-loop μ-loop Inv-search μ-search
+mul-ends c = omega (arith, fewer (c .before .before) .1)
+
+array-write-ends : tie.Need-array-write-ends Inv-loop μ-loop Inv-search μ-search
+array-write-ends c = omega (arith, fewer (c .before .before) .1)
 
 loop-less : tie.Need-loop-less Inv-loop μ-loop Inv-search μ-search
-loop-less c = omega (arith, c .before .before .before .loop-test .taken)
+loop-less c = omega (arith, fewer (c .before .before) .0)
 
 loop-again : tie.Need-loop-again Inv-loop μ-loop Inv-search μ-search
 loop-again c =
-    let l = c .before .before .before .before .loop in
-    (omega arith, omega arith, λ m a b. ⊎-elim (λ (q : m ≡ l .first). rw q (sym (c .before .serves .ensures) ∙ c .if3 .left)) (λ k. l .inv .2 m a k) (eq-or-lt-of-le (le-of-suc-le-suc (rw add-one at b))))
+    let l = c .before .before .before .before in
+    let s = asked (here l) in
+    let e = l .before .before .rule-symbols .ensures in
+    let k = fewer (c .before .before) in
+    let known = rw (← e) at (symbols-known _ _ _ _ _ _ (s .pre .0) _ (inside (here l))) in
+    turn-next _ _ (s .pre .0 .proper) _ _ _ _ (s .pre .0 .short) (s .pre .1 .end) _ _ _ (l .loop .inv) _ _ (k .0) (c .before .before .before .loop-test .taken)
+    (c .first-end .ensures _ (s .pre .0 .work) (known _ (k .0))) (rw add-one (l .before .sets-before .ensures .exact _ (s .pre .0 .work) known _ (omega arith) (k .0))) (k .1)
 
 add-p-2 : tie.Need-add-p-2 Inv-loop μ-loop Inv-search μ-search
-add-p-2 c = search needs
+add-p-2 c = omega (arith, few (here (c .before)))
 
 search-less-2 : tie.Need-search-less-2 Inv-loop μ-loop Inv-search μ-search
-search-less-2 c = omega (arith, c .before .before .before .before .before .before .before .before .if1 .left)
+search-less-2 c = omega (arith, inside (here (c .before)))
 
 search-again-2 : tie.Need-search-again-2 Inv-loop μ-loop Inv-search μ-search
 search-again-2 c =
-    let s = c .before .before .before .before .before .before .before .before .before .before .before .before .before in
-    let k = c .before .before .before .before .before .before .before .before .if1 .left in
-    let e = c .before .before .before .before .rule-symbols .ensures in
-    let made = rw e at (c .before .before .before .sets-before .ensures) in
-    let past = rw e at (c .before .before .past-first .ensures) in
-    (omega (arith, k), search-more _ _ _ _ _ _ (s .pre .0) _ _ _ _ (s .pre .1) (s .pre .2) _ (c .before .before .before .before .before .before .before .before .before .search .inv .1) k _ made (λ m a b. rw e at (c .before .loop .inv .2 m a (omega (arith, past, b, c .loop-test .left)))))
+    let l = c .before in
+    let s = asked (here l) in
+    rule-after _ _ _ _ _ _ (s .pre .0) _ _ _ _ (s .pre .1) _ (here l .search .inv) _ (l .before .before .rule-symbols .ensures)
+    (λ a. turn-fails _ _ (s .pre .0 .proper) _ _ _ _ (s .pre .0 .short) (s .pre .1 .end) _ _ _ (l .loop .inv) (c .loop-test .left))
 
 returns : tie.Need-returns Inv-loop μ-loop Inv-search μ-search
-returns c = let s = c .before .before .before .before .before in search-none _ _ _ _ _ _ (s .pre .0) _ _ _ _ (s .pre .1) (s .pre .2) _ (c .before .search .inv .1) (c .if1 .taken) (c .before .search .inv .0)
-
-returns-2 : tie.Need-returns-2 Inv-loop μ-loop Inv-search μ-search
-returns-2 c =
-    let s = c .before .before .before .before .before .before .before .before .before .before .before .before .before .before .before .before in
-    let k = c .before .before .before .before .before .before .before .before .before .before .before .if1 .left in
-    let e = c .before .before .before .before .before .before .before .rule-symbols .ensures in
-    let made = rw e at (c .before .before .before .before .before .before .sets-before .ensures) in
-    let past = past-inside (length (now (c .before .before .before .before .before .before .before .rule-symbols .result))) (s .args .start) (length (now (s .args .line))) (s .pre .1) in
-    search-found _ _ _ _ _ _ (s .pre .0) _ _ _ _ (s .pre .1) (s .pre .2) _ (c .before .before .before .before .before .before .before .before .before .before .before .before .search .inv .1) k _ made (c .before .before .before .before .loop .first) (omega (arith, past, c .before .before .before .before .before .past-first .ensures, c .before .before .before .loop-test .taken)) (sym (c .before .before .before .before .before .before .before .before .before .rule-left .ensures) ∙ c .before .before .before .before .before .before .before .before .if2 .left) (rw e at (sym (c .before .serves .ensures) ∙ c .if3 .taken))
+returns c =
+    let l = c .before .before in
+    let s = asked (here l) in
+    let e = l .before .before .rule-symbols .ensures in
+    let o = l .before .before .before in
+    let a = o .before .may-serve .ensures .passes (not-false _ (o .if1 .left)) in
+    let w = turn-whole _ _ (s .pre .0 .proper) _ _ _ _ (s .pre .0 .short) (s .pre .1 .end) _ _ _ (l .loop .inv) (c .if2 .taken) (c .before .loop-test .taken) (rw e (a .1)) in
+    rule-found _ _ _ _ _ _ (s .pre .0) _ _ _ _ (s .pre .1) _ (here l .search .inv) _ e _ (a .0) (w .0) (w .1)
 
 pub search-spec : {M : Type 1} → statement M
 search-spec =
@@ -125,24 +168,28 @@ search-spec =
     μ-loop
     Inv-search
     μ-search
+    sub-h
     search-holds
     mul-at
     element-copy-out-at
-    rule-left-requires
-    cast-if2
+    may-serve-requires
     add-p
     search-less
     search-again
     rule-symbols-requires
     sets-before-requires
-    past-first-requires
     loop-holds
-    serves-requires
-    add-first
+    shared-slice-read-symbol
+    cast-symbol
+    add-d
+    mul-first-end
+    array-read-first-end
+    first-end-requires
+    mul-ends
+    array-write-ends
     loop-less
     loop-again
     add-p-2
     search-less-2
     search-again-2
-    returns
-    returns-2)
+    returns)

@@ -1,26 +1,26 @@
 -- `tree::writing::write` meets its contract; the depth that is handed in falls at each call. The loop's invariant: the first d children are written.
 use Prim.Native.Nat.{ℕ, _+_, _-_, _<_}
-use mathlib.Core.Path.{_∙_}
+use mathlib.Core.Path.{_≡_, _∙_}
 use mathlib.Core.Logic.{⊎-elim}
+use mathlib.Core.List.{_∷_}
 use native.Mathlib.Nat.{le-trans, lt-of-lt-of-le}
 use native.Mathlib.Omega.{arith}
-use lib.ListN.{length}
+use lib.ListN.{length, getD}
 use denote.Ref.{now}
 use borrow.Author.Needs.{needs}
 use borrow.Fn.Kinds.{In}
 use borrow.Fn.PlainCycle.{Measures, is, falls, and}
+use Rattle.derivation.specs.Node.{ruleNode}
+use Rattle.derivation.specs.Shown.{shown}
 use Rattle.grammar.specs.Given.{grammarGiven}
 use Rattle.tree.specs.Bytes.{bytes}
-use Rattle.tree.proofs.SearchLaws.{NextChild}
-use Rattle.tree.proofs.TurnLaws.{rule-inside, turn-few, turn-fit, begins, turn-shown, turn-child, child-node}
+use Rattle.tree.proofs.TurnLaws.{NextChild, found-inside, turn-few, turn-fit, turn-shown, turn-child, child-node}
 use Rattle.tree.proofs.WriteLaws.{rowFrom, WriteTurn, root-room, turn-begin, turn-long, token-room, token-written, category-room, category-written, turn-end}
 use Rattle.tree.proofs.writing.write.Reads as write
 use Rattle.tree.proofs.writing.write.Kinds as write-kinds
 use Rattle.tree.proofs.writing.+write.Lts-write as lts
 use Rattle.grammar.proofs.rules.rule_symbols.Reads as rule-symbols-reads
 use Rattle.tree.proofs.division.depth_at.Reads as depth-at-reads
-use Rattle.tree.proofs.division.first_end.Reads as first-end-reads
-use Rattle.tree.proofs.division.sets_before.Reads as sets-before-reads
 use Rattle.tree.proofs.node.put_node.Reads as put-node-reads
 use Rattle.tree.proofs.node.rule_node.Reads as rule-node-reads
 use Rattle.tree.proofs.node.token_node.Reads as token-node-reads
@@ -29,11 +29,11 @@ use Rattle.tree.proofs.writing.+write.{statement}
 use Rattle.tree.proofs.writing.+write.Tie.{close}
 
 -- the depth that is handed in
-abbrev μ : Measures 5 write-kinds.ps ℕ
+abbrev μ : Measures 6 write-kinds.ps ℕ
 μ κs a = a .1 .1 .1 .1 .1 .1 .1 .1 .0
 
-abbrev at : ℕ → In 5 write-kinds.ps
-at t = and 5 write-kinds.ps (is 5 write-kinds.ps μ t) write.Pre
+abbrev at : ℕ → In 6 write-kinds.ps
+at t = and 6 write-kinds.ps (is 6 write-kinds.ps μ t) write.Pre
 
 abbrev claims : ℕ → lts.Claims
 claims t = (
@@ -41,148 +41,200 @@ claims t = (
   search-reads.Learnt,
   rule-symbols-reads.Asked,
   rule-symbols-reads.Learnt,
-  sets-before-reads.Asked,
-  sets-before-reads.Learnt,
   rule-node-reads.Asked,
   rule-node-reads.Learnt,
   put-node-reads.Asked,
   put-node-reads.Learnt,
-  first-end-reads.Asked,
-  first-end-reads.Learnt,
   token-node-reads.Asked,
   token-node-reads.Learnt,
   depth-at-reads.Asked,
   depth-at-reads.Learnt,
-  and 5 write-kinds.ps (falls 5 write-kinds.ps _<_ μ t) write.Pre,
+  and 6 write-kinds.ps (falls 6 write-kinds.ps _<_ μ t) write.Pre,
   write.Post,
 )
 
 abbrev Inv-loop : lts.InvT-loop
-Inv-loop g starts rules line depths category start end depth out₀ at h p symbols sets place₀ m₀ d₀ out place m d =
-    WriteTurn (grammarGiven g) line h symbols end out₀ place₀ (bytes (rowFrom (grammarGiven g) line h symbols end 0 start)) d m place out
+Inv-loop g starts line words depths category start end depth out₀ at rule ends symbols place₀ d₀ out place d =
+    WriteTurn (grammarGiven g) line (depth - 1) symbols end out₀ place₀ (bytes (rowFrom (grammarGiven g) line (depth - 1) symbols end 0 (getD ends 0 0))) d (getD ends d 0) place out
 
 abbrev μ-loop : lts.MeasureT-loop
-μ-loop g starts rules line depths category start end depth out₀ at h p symbols sets place₀ m₀ d₀ out place m d = length symbols - d
+μ-loop g starts line words depths category start end depth out₀ at rule ends symbols place₀ d₀ out place d = length symbols - d
 
-sub-h : (t : ℕ) → lts.Need-sub-h (claims t) (at t) write.Post Inv-loop μ-loop
-sub-h t c = omega (arith, c .before .before .before .before .pre .1 .1 .fact)
+module _ (t : ℕ) where
+  abbrev asked : lts.After-search (claims t) (at t) write.Post Inv-loop μ-loop → lts.Start (claims t) (at t) write.Post Inv-loop μ-loop
+  asked c = c .before .before .before .before .before .before
 
-search-requires : (t : ℕ) → lts.Need-search-requires (claims t) (at t) write.Post Inv-loop μ-loop
-search-requires t c κs = (c .before .before .before .before .pre .1 .0, c .before .before .before .before .pre .1 .1 .start, c .before .before .before .before .pre .1 .1 .end)
+  abbrev searched : lts.After-rule-symbols (claims t) (at t) write.Post Inv-loop μ-loop → lts.After-search (claims t) (at t) write.Post Inv-loop μ-loop
+  searched c = c .before .before .before
 
--- the rule that is found is one of the grammar's
-inside : (t : ℕ) (c : lts.After-search (claims t) (at t) write.Post Inv-loop μ-loop) → c .search .result < c .before .before .before .before .before .args .rules
-inside t c = rule-inside _ _ _ _ _ _ (c .before .before .before .before .before .pre .1 .0) _ _ _ _ (c .before .before .before .before .before .pre .1 .1) _ (c .search .ensures)
+  abbrev symbols : lts.At-loop (claims t) (at t) write.Post Inv-loop μ-loop → lts.After-rule-symbols (claims t) (at t) write.Post Inv-loop μ-loop
+  symbols c = c .before .before .before .before .before .before
 
-mul-rule-symbols : (t : ℕ) → lts.Need-mul-rule-symbols (claims t) (at t) write.Post Inv-loop μ-loop
-mul-rule-symbols t c = omega (arith, inside t c, c .before .before .before .before .before .pre .1 .0 .few)
+  -- the rule that is found is one of at most 128
+  inside : (c : lts.After-search (claims t) (at t) write.Post Inv-loop μ-loop) → c .search .result .rule < 128
+  inside c = let p = asked c .pre .1 in lt-of-lt-of-le (found-inside _ _ _ _ _ _ (p .0) _ _ _ _ (p .1) _ (c .search .ensures)) (p .0 .few)
 
-element-copy-out-rule-symbols : (t : ℕ) → lts.Need-element-copy-out-rule-symbols (claims t) (at t) write.Post Inv-loop μ-loop
-element-copy-out-rule-symbols t c = omega (arith, inside t c, c .before .before .before .before .before .pre .1 .0 .few)
+  -- what is shown of the node
+  shows : (c : lts.After-rule-symbols (claims t) (at t) write.Post Inv-loop μ-loop) →
+      let r = searched c in
+      let a = asked r .args in
+      let G = grammarGiven (now (a .g)) in
+      shown G (now (a .line)) (a .category) (a .start) (a .end) ≡ ruleNode (r .search .result .rule) (a .start) (a .end) ∷ rowFrom G (now (a .line)) (a .depth - 1) (now (c .rule-symbols .result)) (a .end) 0 (getD (r .search .result .ends) 0 0)
+  shows c =
+      let r = searched c in
+      let p = asked r .pre .1 in
+      turn-shown _ _ _ _ _ _ (p .0) _ _ _ _ (p .1) _ (r .search .ensures) _ (c .rule-symbols .ensures)
 
-rule-symbols-requires : (t : ℕ) → lts.Need-rule-symbols-requires (claims t) (at t) write.Post Inv-loop μ-loop
-rule-symbols-requires t c κs = c .before .before .before .before .before .before .pre .1 .0 .stands _ (inside t (c .before))
+  -- symbol d is one of at most 8
+  few : (c : lts.In-loop (claims t) (at t) write.Post Inv-loop μ-loop) → c .before .loop .d < 8
+  few c =
+      let y = symbols (c .before) in
+      let p = asked (searched y) .pre .1 in
+      lt-of-lt-of-le (c .loop-test .taken) (turn-few _ _ _ _ _ _ (p .0) _ _ _ _ (p .1) _ (searched y .search .ensures) _ (y .rule-symbols .ensures))
 
-sets-before-requires : (t : ℕ) → lts.Need-sets-before-requires (claims t) (at t) write.Post Inv-loop μ-loop
-sets-before-requires t c κs = (c .before .before .before .before .before .before .before .pre .1 .0 .short, c .before .before .before .before .before .before .before .pre .1 .1 .end, turn-few _ _ _ _ _ _ (c .before .before .before .before .before .before .before .pre .1 .0) _ _ _ _ (c .before .before .before .before .before .before .before .pre .1 .1) _ (c .before .before .search .ensures) _ (c .rule-symbols .ensures), turn-fit _ _ _ _ _ _ (c .before .before .before .before .before .before .before .pre .1 .0) _ _ _ _ (c .before .before .before .before .before .before .before .pre .1 .1) _ (c .before .before .search .ensures) _ (c .rule-symbols .ensures))
+  -- the child that it is
+  next : (c : lts.In-loop (claims t) (at t) write.Post Inv-loop μ-loop) →
+      let y = symbols (c .before) in
+      let r = searched y in
+      let a = asked r .args in
+      let d = c .before .loop .d in
+      NextChild (grammarGiven (now (a .g))) (now (a .line)) (a .depth - 1) (now (y .rule-symbols .result)) (a .end) d (getD (r .search .result .ends) d 0) (getD (r .search .result .ends) (d + 1) 0)
+  next c =
+      let y = symbols (c .before) in
+      let r = searched y in
+      let p = asked r .pre .1 in
+      turn-child _ _ _ _ _ _ (p .0) _ _ _ _ (p .1) _ (r .search .ensures) _ (y .rule-symbols .ensures) _ (c .loop-test .taken)
 
-rule-node-requires : (t : ℕ) → lts.Need-rule-node-requires (claims t) (at t) write.Post Inv-loop μ-loop
-rule-node-requires t c κs = let p = c .before .before .before .before .before .before .before .before .before .pre .1 in (lt-of-lt-of-le (inside t (c .before .before .before .before)) (p .0 .few), le-trans (p .1 .start) (p .0 .short), le-trans (p .1 .end) (p .0 .short))
+  search-requires : lts.Need-search-requires (claims t) (at t) write.Post Inv-loop μ-loop
+  search-requires c κs = let p = c .before .before .before .before .before .pre .1 in (p .0, p .1)
 
-put-node-requires : (t : ℕ) → lts.Need-put-node-requires (claims t) (at t) write.Post Inv-loop μ-loop
-put-node-requires t c κs = let a = c .before .before .before .before .before .before .before .before .before .before .args in root-room (now (a .out)) (a .at) _ _ _ (turn-shown _ _ _ _ _ _ (c .before .before .before .before .before .before .before .before .before .before .pre .1 .0) _ _ _ _ (c .before .before .before .before .before .before .before .before .before .before .pre .1 .1) _ (c .before .before .before .before .before .search .ensures) _ (c .before .before .before .rule-symbols .ensures)) (c .before .before .before .before .before .before .before .before .before .before .pre .1 .2)
+  mul-rule-symbols : lts.Need-mul-rule-symbols (claims t) (at t) write.Post Inv-loop μ-loop
+  mul-rule-symbols c = omega (arith, inside (c .before))
 
-loop-holds : (t : ℕ) → lts.Need-loop-holds (claims t) (at t) write.Post Inv-loop μ-loop
-loop-holds t c = turn-begin _ _ _ _ _ _ _ _ _ _ (turn-shown _ _ _ _ _ _ (c .before .before .before .before .before .before .before .before .before .before .before .before .before .pre .1 .0) _ _ _ _ (c .before .before .before .before .before .before .before .before .before .before .before .before .before .pre .1 .1) _ (c .before .before .before .before .before .before .before .before .search .ensures) _ (c .before .before .before .before .before .before .rule-symbols .ensures)) (c .before .before .before .before .before .before .before .before .before .before .before .before .before .pre .1 .2) _ _ (c .before .before .put-node .ensures .0) (rw (c .before .before .before .rule-node .ensures) at (c .before .before .put-node .ensures .1)) (c .before .before .before .before .before .before .before .before .before .before .before .before .before .pre .1 .1 .start) (begins _ _ _ _ _ _ (c .before .before .before .before .before .before .before .before .before .before .before .before .before .pre .1 .0) _ _ _ _ (c .before .before .before .before .before .before .before .before .before .before .before .before .before .pre .1 .1) _ (c .before .before .before .before .before .before .before .before .search .ensures) _ (c .before .before .before .before .before .before .rule-symbols .ensures))
+  element-copy-out-rule-symbols : lts.Need-element-copy-out-rule-symbols (claims t) (at t) write.Post Inv-loop μ-loop
+  element-copy-out-rule-symbols c = inside (c .before)
 
-shared-slice-read-symbol : (t : ℕ) → lts.Need-shared-slice-read-symbol (claims t) (at t) write.Post Inv-loop μ-loop
-shared-slice-read-symbol t c = search needs
+  rule-symbols-requires : lts.Need-rule-symbols-requires (claims t) (at t) write.Post Inv-loop μ-loop
+  rule-symbols-requires c κs = let r = c .before .before in asked r .pre .1 .0 .stands _ (found-inside _ _ _ _ _ _ (asked r .pre .1 .0) _ _ _ _ (asked r .pre .1 .1) _ (r .search .ensures))
 
-cast-first-end : (t : ℕ) → lts.Need-cast-first-end (claims t) (at t) write.Post Inv-loop μ-loop
-cast-first-end t c = omega (arith, c .shared-slice-known4 .given (c .before .before .loop .d))
+  rule-node-requires : lts.Need-rule-node-requires (claims t) (at t) write.Post Inv-loop μ-loop
+  rule-node-requires c κs =
+      let r = searched (c .before) in
+      let p = asked r .pre .1 in
+      (inside r, le-trans (p .1 .start) (p .0 .short), le-trans (p .1 .end) (p .0 .short))
 
--- symbol d is one of at most 8
-few : (t : ℕ) (c : lts.After-shared-slice-known4 (claims t) (at t) write.Post Inv-loop μ-loop) → c .before .before .loop .d < 8
-few t c = omega (arith, turn-few _ _ _ _ _ _ (c .before .before .before .before .before .before .before .before .before .before .before .before .before .before .before .before .pre .1 .0) _ _ _ _ (c .before .before .before .before .before .before .before .before .before .before .before .before .before .before .before .before .pre .1 .1) _ (c .before .before .before .before .before .before .before .before .before .before .before .search .ensures) _ (c .before .before .before .before .before .before .before .before .before .rule-symbols .ensures), c .before .loop-test .taken)
+  put-node-requires : lts.Need-put-node-requires (claims t) (at t) write.Post Inv-loop μ-loop
+  put-node-requires c κs =
+      let s = asked (searched (c .before .before)) in
+      root-room (now (s .args .out)) (s .args .at) _ _ _ (shows (c .before .before)) (s .pre .1 .2)
 
-add-first-end : (t : ℕ) → lts.Need-add-first-end (claims t) (at t) write.Post Inv-loop μ-loop
-add-first-end t c = omega (arith, few t c)
+  loop-holds : lts.Need-loop-holds (claims t) (at t) write.Post Inv-loop μ-loop
+  loop-holds c =
+      let n = c .before .before in
+      let y = n .before .before .before in
+      turn-begin _ _ _ _ _ _ _ _ _ _ (shows y) (asked (searched y) .pre .1 .2) _ _ (n .put-node .ensures .0) (rw (n .before .rule-node .ensures) at (n .put-node .ensures .1))
 
-mul-first-end : (t : ℕ) → lts.Need-mul-first-end (claims t) (at t) write.Post Inv-loop μ-loop
-mul-first-end t c = omega (arith, few t c)
+  shared-slice-read-symbol : lts.Need-shared-slice-read-symbol (claims t) (at t) write.Post Inv-loop μ-loop
+  shared-slice-read-symbol c = search needs
 
-array-read-first-end : (t : ℕ) → lts.Need-array-read-first-end (claims t) (at t) write.Post Inv-loop μ-loop
-array-read-first-end t c = omega (arith, few t c)
+  mul-m : lts.Need-mul-m (claims t) (at t) write.Post Inv-loop μ-loop
+  mul-m c = omega (arith, few (c .before))
 
-first-end-requires : (t : ℕ) → lts.Need-first-end-requires (claims t) (at t) write.Post Inv-loop μ-loop
-first-end-requires t c κs = (c .before .before .before .before .before .before .before .before .before .before .before .before .before .before .before .before .pre .1 .0 .short, c .before .before .loop .inv .inside, turn-fit _ _ _ _ _ _ (c .before .before .before .before .before .before .before .before .before .before .before .before .before .before .before .before .pre .1 .0) _ _ _ _ (c .before .before .before .before .before .before .before .before .before .before .before .before .before .before .before .before .pre .1 .1) _ (c .before .before .before .before .before .before .before .before .before .before .before .search .ensures) _ (c .before .before .before .before .before .before .before .before .before .rule-symbols .ensures) _ (c .before .loop-test .taken))
+  array-read-m : lts.Need-array-read-m (claims t) (at t) write.Post Inv-loop μ-loop
+  array-read-m c = omega (arith, few (c .before))
 
--- the child that symbol d is
-next : (t : ℕ) (c : lts.After-first-end (claims t) (at t) write.Post Inv-loop μ-loop) →
-    let a = c .before .before .before .before .before .before .before .before .before .before .before .before .before .before .before .before .before .args in
-    NextChild (grammarGiven (now (a .g))) (now (a .line)) (a .depth - 1) (now (c .before .before .before .before .before .before .before .before .before .before .rule-symbols .result)) (a .end) (c .before .before .before .loop .d) (c .before .before .before .loop .m) (c .first-end .result)
-next t c = turn-child _ _ _ _ _ _ (c .before .before .before .before .before .before .before .before .before .before .before .before .before .before .before .before .before .pre .1 .0) _ _ _ _ (c .before .before .before .before .before .before .before .before .before .before .before .before .before .before .before .before .before .pre .1 .1) _ (c .before .before .before .before .before .before .before .before .before .before .before .before .search .ensures) _ (c .before .before .before .before .before .before .before .before .before .before .rule-symbols .ensures) _ (c .before .before .before .before .before .before .before .before .before .sets-before .ensures) _ _ _ (c .before .before .loop-test .taken) (c .before .before .before .loop .inv .inside) (c .before .before .before .loop .inv .left) (c .first-end .ensures)
+  add-e : lts.Need-add-e (claims t) (at t) write.Post Inv-loop μ-loop
+  add-e c = omega (arith, few (c .before))
 
-token-node-requires : (t : ℕ) → lts.Need-token-node-requires (claims t) (at t) write.Post Inv-loop μ-loop
-token-node-requires t c κs = (le-trans (c .before .before .before .before .before .loop .inv .inside) (c .before .before .before .before .before .before .before .before .before .before .before .before .before .before .before .before .before .before .before .pre .1 .0 .short), le-trans (next t (c .before .before) .inside) (c .before .before .before .before .before .before .before .before .before .before .before .before .before .before .before .before .before .before .before .pre .1 .0 .short))
+  mul-e : lts.Need-mul-e (claims t) (at t) write.Post Inv-loop μ-loop
+  mul-e c = omega (arith, few (c .before))
 
-put-node-requires-2 : (t : ℕ) → lts.Need-put-node-requires-2 (claims t) (at t) write.Post Inv-loop μ-loop
-put-node-requires-2 t c κs = token-room _ _ _ _ _ _ _ _ _ _ (turn-shown _ _ _ _ _ _ (c .before .before .before .before .before .before .before .before .before .before .before .before .before .before .before .before .before .before .before .before .pre .1 .0) _ _ _ _ (c .before .before .before .before .before .before .before .before .before .before .before .before .before .before .before .before .before .before .before .before .pre .1 .1) _ (c .before .before .before .before .before .before .before .before .before .before .before .before .before .before .before .search .ensures) _ (c .before .before .before .before .before .before .before .before .before .before .before .before .before .rule-symbols .ensures)) (c .before .before .before .before .before .before .before .before .before .before .before .before .before .before .before .before .before .before .before .before .pre .1 .2) _ _ (c .before .before .before .before .before .before .before .before .before .put-node .ensures .0) (rw (c .before .before .before .before .before .before .before .before .before .before .rule-node .ensures) at (c .before .before .before .before .before .before .before .before .before .put-node .ensures .1)) _ _ _ _ _ (c .before .before .before .before .before .loop-test .taken) (next t (c .before .before .before)) (c .before .before .before .before .before .before .loop .inv) (c .before .before .if1 .taken)
+  array-read-e : lts.Need-array-read-e (claims t) (at t) write.Post Inv-loop μ-loop
+  array-read-e c = omega (arith, few (c .before))
 
-cast-b : (t : ℕ) → lts.Need-cast-b (claims t) (at t) write.Post Inv-loop μ-loop
-cast-b t c = omega (arith, c .before .before .shared-slice-known4 .given (c .before .before .before .before .loop .d))
+  token-node-requires : lts.Need-token-node-requires (claims t) (at t) write.Post Inv-loop μ-loop
+  token-node-requires c κs =
+      let i = c .before .before .before in
+      let short = asked (searched (symbols (i .before))) .pre .1 .0 .short in
+      (le-trans (next i .start) short, le-trans (next i .inside) short)
 
-sub-b : (t : ℕ) → lts.Need-sub-b (claims t) (at t) write.Post Inv-loop μ-loop
-sub-b t c = search needs
+  put-node-requires-2 : lts.Need-put-node-requires-2 (claims t) (at t) write.Post Inv-loop μ-loop
+  put-node-requires-2 c κs =
+      let i = c .before .before .before .before in
+      let l = i .before in
+      let n = l .before .before .before in
+      token-room _ _ _ _ _ _ _ _ _ _ (shows (symbols l)) (asked (searched (symbols l)) .pre .1 .2) _ _ (n .put-node .ensures .0) (rw (n .before .rule-node .ensures) at (n .put-node .ensures .1)) _ _ _ _ _ (i .loop-test .taken) (next i) (l .loop .inv) (c .before .before .if1 .taken)
 
-depth-at-requires : (t : ℕ) → lts.Need-depth-at-requires (claims t) (at t) write.Post Inv-loop μ-loop
-depth-at-requires t c κs = (c .before .before .before .before .before .before .before .before .before .before .before .before .before .before .before .before .before .before .pre .1 .0 .short, c .before .before .before .before .loop .inv .inside, next t (c .before) .inside, turn-fit _ _ _ _ _ _ (c .before .before .before .before .before .before .before .before .before .before .before .before .before .before .before .before .before .before .pre .1 .0) _ _ _ _ (c .before .before .before .before .before .before .before .before .before .before .before .before .before .before .before .before .before .before .pre .1 .1) _ (c .before .before .before .before .before .before .before .before .before .before .before .before .before .search .ensures) _ (c .before .before .before .before .before .before .before .before .before .before .before .rule-symbols .ensures) _ (c .before .before .before .loop-test .taken) (c .if1 .left))
+  cast-b : lts.Need-cast-b (claims t) (at t) write.Post Inv-loop μ-loop
+  cast-b c = omega (arith, c .before .shared-slice-known5 .given (c .before .before .before .loop .d))
 
-write-requires : (t : ℕ) → lts.Need-write-requires (claims t) (at t) write.Post Inv-loop μ-loop
-write-requires t c κs =
-    let n = child-node _ _ _ _ _ _ (c .before .before .before .before .before .before .before .before .before .before .before .before .before .before .before .before .before .before .before .before .pre .1 .0) _ _ _ _ (c .before .before .before .before .before .before .before .before .before .before .before .before .before .before .before .before .before .before .before .before .pre .1 .1) _ (c .before .before .before .before .before .before .before .before .before .before .before .before .before .before .before .search .ensures) _ (c .before .before .before .before .before .before .before .before .before .before .before .before .before .rule-symbols .ensures) _ (c .before .before .before .before .before .before .before .before .before .before .before .before .sets-before .ensures) _ _ _ (c .before .before .before .before .before .loop-test .taken) (c .before .before .before .before .before .before .loop .inv .inside) (c .before .before .before .before .before .before .loop .inv .left) (c .before .before .before .first-end .ensures) (c .before .before .if1 .left) in
-    let e = c .before .depth-at .ensures in
-    (omega (arith, e, n .1, c .before .before .before .before .before .before .before .before .before .before .before .before .before .before .before .before .before .before .before .before .pre .0), (c .before .before .before .before .before .before .before .before .before .before .before .before .before .before .before .before .before .before .before .before .pre .1 .0, rw e (n .0), category-room _ _ _ _ _ _ _ _ _ _ (turn-shown _ _ _ _ _ _ (c .before .before .before .before .before .before .before .before .before .before .before .before .before .before .before .before .before .before .before .before .pre .1 .0) _ _ _ _ (c .before .before .before .before .before .before .before .before .before .before .before .before .before .before .before .before .before .before .before .before .pre .1 .1) _ (c .before .before .before .before .before .before .before .before .before .before .before .before .before .before .before .search .ensures) _ (c .before .before .before .before .before .before .before .before .before .before .before .before .before .rule-symbols .ensures)) (c .before .before .before .before .before .before .before .before .before .before .before .before .before .before .before .before .before .before .before .before .pre .1 .2) _ _ (c .before .before .before .before .before .before .before .before .before .put-node .ensures .0) (rw (c .before .before .before .before .before .before .before .before .before .before .rule-node .ensures) at (c .before .before .before .before .before .before .before .before .before .put-node .ensures .1)) _ _ _ _ _ (c .before .before .before .before .before .loop-test .taken) (next t (c .before .before .before)) (c .before .before .before .before .before .before .loop .inv) (c .before .before .if1 .left)))
+  sub-b : lts.Need-sub-b (claims t) (at t) write.Post Inv-loop μ-loop
+  sub-b c = search needs
 
-add-d : (t : ℕ) → lts.Need-add-d (claims t) (at t) write.Post Inv-loop μ-loop
-add-d t c = omega (arith, c .before .before .before .loop-test .taken, turn-few _ _ _ _ _ _ (c .before .before .before .before .before .before .before .before .before .before .before .before .before .before .before .before .before .before .pre .1 .0) _ _ _ _ (c .before .before .before .before .before .before .before .before .before .before .before .before .before .before .before .before .before .before .pre .1 .1) _ (c .before .before .before .before .before .before .before .before .before .before .before .before .before .search .ensures) _ (c .before .before .before .before .before .before .before .before .before .before .before .rule-symbols .ensures))
+  depth-at-requires : lts.Need-depth-at-requires (claims t) (at t) write.Post Inv-loop μ-loop
+  depth-at-requires c κs =
+      let i = c .before .before in
+      let y = symbols (i .before) in
+      let r = searched y in
+      let p = asked r .pre .1 in
+      (p .0 .short, next i .start, next i .inside, turn-fit _ _ _ _ _ _ (p .0) _ _ _ _ (p .1) _ (r .search .ensures) _ (y .rule-symbols .ensures) _ (i .loop-test .taken) (c .if1 .left))
 
-loop-less : (t : ℕ) → lts.Need-loop-less (claims t) (at t) write.Post Inv-loop μ-loop
-loop-less t c = omega (arith, c .before .before .before .loop-test .taken)
+  write-requires : lts.Need-write-requires (claims t) (at t) write.Post Inv-loop μ-loop
+  write-requires c κs =
+      let o = c .before .before in
+      let i = o .before .before in
+      let l = i .before in
+      let r = searched (symbols l) in
+      let p = asked r .pre in
+      let e = c .before .depth-at .ensures in
+      let n = l .before .before .before in
+      let x = child-node _ _ _ _ _ _ (p .1 .0) _ _ _ _ (p .1 .1) _ (r .search .ensures) _ (symbols l .rule-symbols .ensures) _ (i .loop-test .taken) (o .if1 .left) in
+      (omega (arith, e, x .1, p .0), (p .1 .0, rw e (x .0), category-room _ _ _ _ _ _ _ _ _ _ (shows (symbols l)) (asked (searched (symbols l)) .pre .1 .2) _ _ (n .put-node .ensures .0) (rw (n .before .rule-node .ensures) at (n .put-node .ensures .1)) _ _ _ _ _ (i .loop-test .taken) (next i) (l .loop .inv) (o .if1 .left)))
 
-loop-again : (t : ℕ) → lts.Need-loop-again (claims t) (at t) write.Post Inv-loop μ-loop
-loop-again t c =
-    let l = c .before .before .before .before .loop in
-    let k = c .before .before .before .loop-test .taken in
-    let n = next t (c .before) in
-    ⊎-elim
-    (λ w. token-written _ _ _ _ _ _ _ _ _ _ (turn-shown _ _ _ _ _ _ (c .before .before .before .before .before .before .before .before .before .before .before .before .before .before .before .before .before .before .pre .1 .0) _ _ _ _ (c .before .before .before .before .before .before .before .before .before .before .before .before .before .before .before .before .before .before .pre .1 .1) _ (c .before .before .before .before .before .before .before .before .before .before .before .before .before .search .ensures) _ (c .before .before .before .before .before .before .before .before .before .before .before .rule-symbols .ensures)) (c .before .before .before .before .before .before .before .before .before .before .before .before .before .before .before .before .before .before .pre .1 .2) _ _ (c .before .before .before .before .before .before .before .put-node .ensures .0) (rw (c .before .before .before .before .before .before .before .before .rule-node .ensures) at (c .before .before .before .before .before .before .before .put-node .ensures .1)) _ _ _ _ _ k n (l .inv) (w .0 .taken) (w .7 ∙ w .3 .ensures .0) (w .6 ∙ (rw (w .2 .ensures) at (w .3 .ensures .1))))
-    (λ w. category-written _ _ _ _ _ _ _ _ _ _ (turn-shown _ _ _ _ _ _ (c .before .before .before .before .before .before .before .before .before .before .before .before .before .before .before .before .before .before .pre .1 .0) _ _ _ _ (c .before .before .before .before .before .before .before .before .before .before .before .before .before .before .before .before .before .before .pre .1 .1) _ (c .before .before .before .before .before .before .before .before .before .before .before .before .before .search .ensures) _ (c .before .before .before .before .before .before .before .before .before .before .before .rule-symbols .ensures)) (c .before .before .before .before .before .before .before .before .before .before .before .before .before .before .before .before .before .before .pre .1 .2) _ _ (c .before .before .before .before .before .before .before .put-node .ensures .0) (rw (c .before .before .before .before .before .before .before .before .rule-node .ensures) at (c .before .before .before .before .before .before .before .put-node .ensures .1)) _ _ _ _ _ k n (l .inv) (w .0 .left) (w .7 ∙ w .3 .ensures .0) (w .6 ∙ w .3 .ensures .1))
-    (c .if1 .came)
+  add-d : lts.Need-add-d (claims t) (at t) write.Post Inv-loop μ-loop
+  add-d c = omega (arith, few (c .before .before))
 
-same-length : (t : ℕ) → lts.Need-same-length (claims t) (at t) write.Post Inv-loop μ-loop
-same-length t c = turn-long _ _ _ _ _ _ _ _ _ _ (turn-shown _ _ _ _ _ _ (c .before .before .before .before .before .before .before .before .before .before .before .before .before .before .before .pre .1 .0) _ _ _ _ (c .before .before .before .before .before .before .before .before .before .before .before .before .before .before .before .pre .1 .1) _ (c .before .before .before .before .before .before .before .before .before .before .search .ensures) _ (c .before .before .before .before .before .before .before .before .rule-symbols .ensures)) (c .before .before .before .before .before .before .before .before .before .before .before .before .before .before .before .pre .1 .2) _ _ (c .before .before .before .before .put-node .ensures .0) (rw (c .before .before .before .before .before .rule-node .ensures) at (c .before .before .before .before .put-node .ensures .1)) (c .before .loop .inv)
+  loop-less : lts.Need-loop-less (claims t) (at t) write.Post Inv-loop μ-loop
+  loop-less c = omega (arith, c .before .before .loop-test .taken)
 
-returns : (t : ℕ) → lts.Need-returns (claims t) (at t) write.Post Inv-loop μ-loop
-returns t c = turn-end _ _ _ _ _ _ _ _ _ _ (turn-shown _ _ _ _ _ _ (c .before .before .before .before .before .before .before .before .before .before .before .before .before .before .before .pre .1 .0) _ _ _ _ (c .before .before .before .before .before .before .before .before .before .before .before .before .before .before .before .pre .1 .1) _ (c .before .before .before .before .before .before .before .before .before .before .search .ensures) _ (c .before .before .before .before .before .before .before .before .rule-symbols .ensures)) (c .before .before .before .before .before .before .before .before .before .before .before .before .before .before .before .pre .1 .2) _ _ (c .before .before .before .before .put-node .ensures .0) (rw (c .before .before .before .before .before .rule-node .ensures) at (c .before .before .before .before .put-node .ensures .1)) (c .loop-test .left) (c .before .loop .inv)
+  loop-again : lts.Need-loop-again (claims t) (at t) write.Post Inv-loop μ-loop
+  loop-again c =
+      let i = c .before .before in
+      let l = i .before in
+      let n = l .before .before .before in
+      let k = i .loop-test .taken in
+      ⊎-elim
+      (λ w. token-written _ _ _ _ _ _ _ _ _ _ (shows (symbols l)) (asked (searched (symbols l)) .pre .1 .2) _ _ (n .put-node .ensures .0) (rw (n .before .rule-node .ensures) at (n .put-node .ensures .1)) _ _ _ _ _ k (next i) (l .loop .inv) (w .0 .taken) (w .7 ∙ w .3 .ensures .0) (w .6 ∙ (rw (w .2 .ensures) at (w .3 .ensures .1))))
+      (λ w. category-written _ _ _ _ _ _ _ _ _ _ (shows (symbols l)) (asked (searched (symbols l)) .pre .1 .2) _ _ (n .put-node .ensures .0) (rw (n .before .rule-node .ensures) at (n .put-node .ensures .1)) _ _ _ _ _ k (next i) (l .loop .inv) (w .0 .left) (w .7 ∙ w .3 .ensures .0) (w .6 ∙ w .3 .ensures .1))
+      (c .if1 .came)
+
+  same-length : lts.Need-same-length (claims t) (at t) write.Post Inv-loop μ-loop
+  same-length c =
+      let l = c .before in
+      let n = l .before .before .before in
+      turn-long _ _ _ _ _ _ _ _ _ _ (shows (symbols l)) (asked (searched (symbols l)) .pre .1 .2) _ _ (n .put-node .ensures .0) (rw (n .before .rule-node .ensures) at (n .put-node .ensures .1)) (l .loop .inv)
+
+  returns : lts.Need-returns (claims t) (at t) write.Post Inv-loop μ-loop
+  returns c =
+      let l = c .before in
+      let n = l .before .before .before in
+      turn-end _ _ _ _ _ _ _ _ _ _ (shows (symbols l)) (asked (searched (symbols l)) .pre .1 .2) _ _ (n .put-node .ensures .0) (rw (n .before .rule-node .ensures) at (n .put-node .ensures .1)) (c .loop-test .left) (l .loop .inv)
 
 pub +write-spec : {M : Type 1} → statement M
 +write-spec = close μ λ t. lts.spec (claims t) (at t) write.Post Inv-loop μ-loop
-    (sub-h t)
     (search-requires t)
     (mul-rule-symbols t)
     (element-copy-out-rule-symbols t)
     (rule-symbols-requires t)
-    (sets-before-requires t)
     (rule-node-requires t)
     (put-node-requires t)
     (loop-holds t)
     (shared-slice-read-symbol t)
-    (cast-first-end t)
-    (add-first-end t)
-    (mul-first-end t)
-    (array-read-first-end t)
-    (first-end-requires t)
+    (mul-m t)
+    (array-read-m t)
+    (add-e t)
+    (mul-e t)
+    (array-read-e t)
     (token-node-requires t)
     (put-node-requires-2 t)
     (cast-b t)

@@ -1,0 +1,91 @@
+-- `tree::division::class_starts` meets its contract. The loop's invariant: of the set, the members that have left are tried.
+use Prim.Native.Nat.{_-_}
+use mathlib.Core.Path.{_∙_}
+use mathlib.Core.Logic.{⊎-elim}
+use native.Mathlib.Omega.{arith}
+use borrow.Author.Needs.{needs}
+use Rattle.tree.proofs.DivisionLaws.{Taken, taken, ClassTurn, class-none, class-more, class-skip, class-all}
+use Rattle.tree.proofs.division.class_starts.Statement.{statement}
+use Rattle.tree.proofs.division.class_starts.Tie as tie
+
+abbrev Inv-loop : tie.InvT-loop
+Inv-loop class line set start starts₀ left₀ starts left = ClassTurn line class set start left starts
+
+abbrev μ-loop : tie.MeasureT-loop
+μ-loop class line set start starts₀ left₀ starts left = left
+
+-- the end that a turn takes
+turn : (c : tie.After-first Inv-loop μ-loop) → Taken (c .before .before .loop .left) (c .first .result)
+turn c = taken _ _ (omega (arith, c .before .before .loop .inv .low)) (c .before .loop-test .taken) (c .first .ensures)
+
+loop-holds : tie.Need-loop-holds Inv-loop μ-loop
+loop-holds c = class-none _ _ _ _
+
+first-requires : tie.Need-first-requires Inv-loop μ-loop
+first-requires c κs = search needs
+
+cast-e : tie.Need-cast-e Inv-loop μ-loop
+cast-e c = search needs
+
+sub-if2 : tie.Need-sub-if2 Inv-loop μ-loop
+sub-if2 c = search needs
+
+shared-slice-read-if2 : tie.Need-shared-slice-read-if2 Inv-loop μ-loop
+shared-slice-read-if2 c =
+    let f = c .before .before in
+    let l = f .before .before in
+    omega (arith, l .before .before .pre .1 _ (l .loop .inv .part _ (turn f .here)), c .before .if1 .taken)
+
+cast-if2 : tie.Need-cast-if2 Inv-loop μ-loop
+cast-if2 c = omega (arith, c .shared-slice-known2 .given (c .before .before .first .result - 1))
+
+sub-insert : tie.Need-sub-insert Inv-loop μ-loop
+sub-insert c = search needs
+
+insert-requires : tie.Need-insert-requires Inv-loop μ-loop
+insert-requires c κs = omega (arith, turn (c .before .before .before) .small)
+
+shl-left : tie.Need-shl-left Inv-loop μ-loop
+shl-left c = turn (c .before) .small
+
+sub-left : tie.Need-sub-left Inv-loop μ-loop
+sub-left c = let t = turn (c .before) in omega (arith, t .power, t .covered)
+
+loop-less : tie.Need-loop-less Inv-loop μ-loop
+loop-less c = let t = turn (c .before) in omega (arith, t .power, t .less)
+
+loop-again : tie.Need-loop-again Inv-loop μ-loop
+loop-again c =
+    let l = c .before .before .before .loop in
+    let t = turn (c .before) in
+    rw (t .power) (
+    ⊎-elim
+    (λ w. rw (w .4) (class-more _ _ _ _ _ _ _ t (l .inv) _ (w .0 .taken) (w .2 .taken) (w .3 .ensures)))
+    (⊎-elim
+    (λ w. rw (w .3) (class-skip _ _ _ _ _ _ _ t (l .inv) (λ k q. w .2 .left q)))
+    (λ w. rw (w .1) (class-skip _ _ _ _ _ _ _ t (l .inv) (λ k q. omega (arith, w .0 .left)))))
+    (c .if1 .came)
+    )
+
+returns : tie.Need-returns Inv-loop μ-loop
+returns c = class-all _ _ _ _ _ (rw (c .loop-test .left) at (c .before .loop .inv))
+
+pub class-starts-spec : {M : Type 1} → statement M
+class-starts-spec =
+    tie.close
+    (tie.spec
+    Inv-loop
+    μ-loop
+    loop-holds
+    first-requires
+    cast-e
+    sub-if2
+    shared-slice-read-if2
+    cast-if2
+    sub-insert
+    insert-requires
+    shl-left
+    sub-left
+    loop-less
+    loop-again
+    returns)
