@@ -156,10 +156,9 @@ module _ (g line : List ℕ) (read : readOf g ≡ Accepted (sectionsGiven g)) (i
       let fits : length (bytes (shown G line A i j)) ≤ length row = rw is at room in (
         tree-answer.Nodes (length nodes),
         sym (told-is told _ (p .1)),
-        tree-outcome.shows {count = length nodes}
+        tree-outcome.shows
             (rw (early, fact, le-ltb (length row) (length (bytes (shown G line A i j))) fits))
-            refl
-            (ap length is)
+            (ap (λ (l : List Node). answered (length l ∷ [])) is)
             (work words depths lent)
             (ap (λ (l : List Node). written (bytes l) row) is),
       )
@@ -169,7 +168,7 @@ module _ (g line : List ℕ) (read : readOf g ≡ Accepted (sectionsGiven g)) (i
       λ words depths row lent room. (
         tree-answer.Refused refusal,
         sym (told-is told _ (p .1)),
-        tree-outcome.noTree {refusal = refusal} (passed words depths lent (Span A i j) (treeFact G line A i j) (treeRoom G line A i j row) question) (rw fact) refl refl (work words depths lent) (rw none),
+        tree-outcome.noTree {refusal = refusal} (passed words depths lent (Span A i j) (treeFact G line A i j) (treeRoom G line A i j row) question) (rw fact) refl (work words depths lent) (rw none),
       )
 
   forest-holds : (branches : List derivation.Branch) (told : Told) → answerTest g line facts (forest branches) told ≡ true → OutcomeIs g line (forest branches) told (holding facts)

@@ -39,7 +39,7 @@ module _ (g line : List ℕ) (refusal : Refusal) (read : readOf g ≡ Refused re
   turned-holds (tree A i j nodes) told asBefore ok = λ words depths row lent room.
       let p = and-parts (sameBy nodeBytes nodes []) (sameTold told (refused (rowOf refusal))) ok in
       let none = same-by nodeBytes node-one nodes [] (p .0) in
-      (tree-answer.Refused refusal, sym (told-is told _ (p .1)), tree-outcome.turnedDown {refusal = refusal} (rw read) refl refl refl refl (rw none))
+      (tree-answer.Refused refusal, sym (told-is told _ (p .1)), tree-outcome.turnedDown {refusal = refusal} (rw read) refl refl refl (rw none))
   turned-holds (forest branches) told asBefore ok = λ words depths rows lent room.
       let p = and-parts (sameBy numbers branches []) (sameTold told (refused (rowOf refusal))) ok in
       let none = same-by numbers branch-one branches [] (p .0) in

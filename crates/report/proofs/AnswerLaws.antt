@@ -74,9 +74,9 @@ module _ {g line : List ℕ} {s : Sections} (passes : Passes g line Nothing 512 
 module _ (g line : List ℕ) (A i j : ℕ) (words depths out : List ℕ) where
   pub tree-refused : {refusal : Refusal} {words′ depths′ out′ : List ℕ} → tree-outcome.TreeOutcome g line A i j words depths out (tree.Refused refusal) words′ depths′ out′ →
       reported (treeChecks g line A i j words depths out) ≡ check.Refused refusal
-  tree-refused {refusal} (tree-outcome.turnedDown {refusal = x} e a _ _ _ _) = let z : x ≡ refusal = cc in rw (e, z)
-  tree-refused {refusal} (tree-outcome.noTree {refusal = x} e f a _ _ _) = let z : x ≡ refusal = cc in rw (e, f, z)
-  tree-refused (tree-outcome.shows _ t _ _ _) = absurd (let z : _≡_ {A = ℕ} 0 1 = cc in omega arith)
+  tree-refused {refusal} (tree-outcome.turnedDown {refusal = x} e a _ _ _) = let z : x ≡ refusal = cc in rw (e, z)
+  tree-refused {refusal} (tree-outcome.noTree {refusal = x} e f a _ _) = let z : x ≡ refusal = cc in rw (e, f, z)
+  tree-refused (tree-outcome.shows _ t _ _) = absurd (let z : _≡_ {A = ℕ} 0 1 = cc in omega arith)
 
   pub record TreeShown (count : ℕ) (out′ : List ℕ) : Type 0 where
     pub passed : reported (treeChecks g line A i j words depths out) ≡ check.Passed
@@ -86,17 +86,17 @@ module _ (g line : List ℕ) (A i j : ℕ) (words depths out : List ℕ) where
     pub long : length out′ ≡ length out
 
   pub tree-shown : {count : ℕ} {words′ depths′ out′ : List ℕ} → tree-outcome.TreeOutcome g line A i j words depths out (tree.Nodes count) words′ depths′ out′ → TreeShown count out′
-  tree-shown (tree-outcome.turnedDown e a _ _ _ _) = absurd (let z : _≡_ {A = ℕ} 0 1 = cc in omega arith)
-  tree-shown (tree-outcome.noTree e f a _ _ _) = absurd (let z : _≡_ {A = ℕ} 0 1 = cc in omega arith)
-  tree-shown {count} (tree-outcome.shows {count = n} p t q _ o) =
-      let z : count ≡ n = cc in
+  tree-shown (tree-outcome.turnedDown e a _ _ _) = absurd (let z : _≡_ {A = ℕ} 0 1 = cc in omega arith)
+  tree-shown (tree-outcome.noTree e f a _ _) = absurd (let z : _≡_ {A = ℕ} 0 1 = cc in omega arith)
+  tree-shown {count} (tree-outcome.shows p t _ o) =
+      let z : count ≡ length (shown (grammarGiven g) line A i j) = cc in
       let late = both-passed (treeFact (grammarGiven g) line A i j) _ (reported-passed (treeChecks g line A i j words depths out) p .1) in
       let fits = ltb-false (length out) (length (bytes (shown (grammarGiven g) line A i j))) (no-fault (ltb (length out) (length (bytes (shown (grammarGiven g) line A i j)))) TreeTooSmall (late .1)) in
       let four = bytes-four (shown (grammarGiven g) line A i j) in
       record {
         passed = p;
-        nodes = z ∙ q;
+        nodes = z;
         begins = o;
-        room = omega (arith, z, q, fits, four);
+        room = omega (arith, z, fits, four);
         long = ap length o ∙ length-append (bytes (shown (grammarGiven g) line A i j)) (drop (length (bytes (shown (grammarGiven g) line A i j))) out) ∙ rw length-drop (omega (arith, fits));
       }

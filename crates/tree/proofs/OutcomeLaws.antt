@@ -40,7 +40,7 @@ module _ {g line : List ℕ} {asked : Asked} {n m : ℕ} {s : Sections} (passes 
 
 module _ (g line : List ℕ) (A i j : ℕ) (words depths out : List ℕ) where
   pub tree-turned : (refusal : Refusal) → early (treeChecks g line A i j words depths out) ≡ check.Refused refusal → TreeOutcome g line A i j words depths out (tree.Refused refusal) words depths out
-  tree-turned refusal e = outcome.turnedDown {refusal = refusal} e refl refl refl refl refl
+  tree-turned refusal e = outcome.turnedDown {refusal = refusal} e refl refl refl refl
 
   module _ (s : Sections) (passes : Passes g line (Span A i j) (length words) (length depths) s) {words′ depths′ : List ℕ} (filled : WorkFilled (grammarOf g s) line words depths words′ depths′) where
     work-is : WorkFilled (grammarGiven g) line words depths words′ depths′
@@ -51,6 +51,6 @@ module _ (g line : List ℕ) (A i j : ℕ) (words depths out : List ℕ) where
 
     pub tree-shown : (answer : TreeAnswer) (out′ : List ℕ) → Shows (grammarGiven g) line A i j out answer out′ → TreeOutcome g line A i j words depths out answer words′ depths′ out′
     tree-shown answer out′ (shows.noTree {refusal} e q o) =
-        outcome.noTree {refusal = refusal} passed e q (rw q) work-is o
+        outcome.noTree {refusal = refusal} passed e q work-is o
     tree-shown answer out′ (shows.shows e q o) =
-        outcome.shows {count = length (shown (grammarGiven g) line A i j)} (rw passed e) (rw q) refl work-is (o ∙ wrote-first out (bytes (shown (grammarGiven g) line A i j)))
+        outcome.shows (rw passed e) (rw q) work-is (o ∙ wrote-first out (bytes (shown (grammarGiven g) line A i j)))

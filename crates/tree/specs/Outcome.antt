@@ -5,7 +5,6 @@ use mathlib.Core.List.{List, [], _∷_, _++_}
 use lib.ListN.{length, drop}
 use Rattle.refusals.specs.declared.Refusal.{Refusal}
 use Rattle.refusals.specs.declared.Check.the-variants as check
-use Rattle.refusals.specs.Row.{rowOf}
 use Rattle.refusals.specs.Order.{early, late, reported}
 use Rattle.refusals.specs.Told as told
 use Rattle.derivation.specs.Shown.{shown}
@@ -18,22 +17,21 @@ use Rattle.tree.specs.Checks.{treeChecks}
 use Rattle.tree.specs.Told.{treeTold}
 
 pub data TreeOutcome (g line : List ℕ) (A i j : ℕ) (words depths out : List ℕ) (answer : TreeAnswer) (words′ depths′ out′ : List ℕ) : Type 0 where
-  -- 1 to 9 and 12: the first refusal is told by its number and place, and no lent memory changes
+  -- 1 to 9 and 12: the first refusal is the answer, and no lent memory changes
   turnedDown : {refusal : Refusal} →
       early (treeChecks g line A i j words depths out) ≡ check.Refused refusal →
-      answer ≡ tree.Refused refusal → treeTold answer ≡ told.refused (rowOf refusal) →
-      words′ ≡ words → depths′ ≡ depths → out′ ≡ out →
+      answer ≡ tree.Refused refusal → words′ ≡ words → depths′ ≡ depths → out′ ≡ out →
       TreeOutcome g line A i j words depths out answer words′ depths′ out′
   -- 10 and 11: the work memory is filled, and the output is as it was
   noTree : {refusal : Refusal} →
       early (treeChecks g line A i j words depths out) ≡ check.Passed → late (treeChecks g line A i j words depths out) ≡ check.Refused refusal →
-      answer ≡ tree.Refused refusal → treeTold answer ≡ told.refused (rowOf refusal) →
+      answer ≡ tree.Refused refusal →
       WorkFilled (grammarGiven g) line words depths words′ depths′ → out′ ≡ out →
       TreeOutcome g line A i j words depths out answer words′ depths′ out′
   -- the node count is told; the output begins with the bytes of the nodes shown, and past them it is as it was
-  shows : {count : ℕ} →
+  shows :
       reported (treeChecks g line A i j words depths out) ≡ check.Passed →
-      treeTold answer ≡ told.answered (count ∷ []) → count ≡ length (shown (grammarGiven g) line A i j) →
+      treeTold answer ≡ told.answered (length (shown (grammarGiven g) line A i j) ∷ []) →
       WorkFilled (grammarGiven g) line words depths words′ depths′ →
       out′ ≡ bytes (shown (grammarGiven g) line A i j) ++ drop (length (bytes (shown (grammarGiven g) line A i j))) out →
       TreeOutcome g line A i j words depths out answer words′ depths′ out′
