@@ -70,7 +70,7 @@ fn check_span(categories: usize, n: usize, category: usize, start: usize, end: u
 }
 
 // What a question asks with, on a line of n tokens.
-pub fn check_asked(categories: usize, n: usize, asked: Asked) -> Check
+fn check_asked(categories: usize, n: usize, asked: Asked) -> Check
     ensures { λ r. ⌜ r ≡ askedCheck categories n asked ⌝ }
 {
     match asked {
