@@ -15,7 +15,7 @@ use Rattle.filling.specs.Filled.{WorkFilled}
 use Rattle.tree.specs.declared.TreeAnswer.{TreeAnswer}
 use Rattle.tree.specs.declared.TreeAnswer.the-variants as tree
 use Rattle.tree.specs.Bytes.{bytes, wrote}
-use Rattle.tree.specs.Kept.{Kept, Charted}
+use Rattle.tree.specs.Kept.{Kept, RowsKept}
 use Rattle.tree.specs.Checked.{checkedOf}
 use Rattle.tree.specs.Shows.{Shows}
 use Rattle.tree.specs.Shows as shows
@@ -40,8 +40,8 @@ module _ (g line : List ℕ) (A i j : ℕ) (words depths out : List ℕ) where
     pub filled-kept : Kept (grammarGiven g) line depths′
     filled-kept = work-is .depth
 
-    pub filled-charted : Charted (grammarGiven g) line words′
-    filled-charted = work-is .word
+    pub filled-rows : RowsKept (grammarGiven g) line words′
+    filled-rows = work-is .word
 
     pub tree-shown : (answer : TreeAnswer) (out′ : List ℕ) → Shows (grammarGiven g) line A i j out answer out′ → TreeOutcome g line A i j words depths out answer words′ depths′ out′
     tree-shown answer out′ (shows.noTree {refusal} e q o) =

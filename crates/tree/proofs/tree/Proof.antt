@@ -1,14 +1,10 @@
 -- `tree::tree` meets its contract: at each `return` what the checks, the filling and the showing gave is the outcome.
-use Prim.Native.Nat.{_≤_}
 use mathlib.Core.Path.{sym, _∙_}
-use native.Mathlib.Omega.{arith}
-use lib.ListN.{length}
 use denote.Ref.{now}
-use Rattle.checks.specs.Memory.{depthsSize}
 use Rattle.checks.proofs.Laws.{work-passed}
 use Rattle.chart.proofs.CheckLaws.{sections, line-is}
 use Rattle.tree.proofs.CheckLaws.{AllPassed, checked-accepted, span-passed}
-use Rattle.tree.proofs.OutcomeLaws.{tree-turned, filled-kept, filled-charted, tree-shown}
+use Rattle.tree.proofs.OutcomeLaws.{tree-turned, filled-kept, filled-rows, tree-shown}
 use borrow.Author.Needs.{needs}
 use Rattle.tree.proofs.tree.Statement.{statement}
 use Rattle.tree.proofs.tree.Tie as tie
@@ -46,11 +42,10 @@ show-requires c κs =
     let f = c .before .before .before .before .before .before .before in
     let p = f .before .before .before .before in
     let a = passed p in
-    let e = p .before .before .before .before .before .before .before .before .args in
     let q = span-passed _ _ _ _ _ (a .span) in
     let filled = f .fill .ensures .work in
     let m = work-passed _ _ _ _ (a .work) in
-    (a .passes .read, line-is _ _ _ (a .passes) .short, q .0, q .1, q .2, rw (filled .depths-long) (m .1), filled-kept _ _ _ _ _ _ _ _ _ a filled, rw (filled .words-long) (m .0), filled-charted _ _ _ _ _ _ _ _ _ a filled)
+    (a .passes .read, line-is _ _ _ (a .passes) .short, q .0, q .1, q .2, rw (filled .depths-long) (m .1), filled-kept _ _ _ _ _ _ _ _ _ a filled, rw (filled .words-long) (m .0), filled-rows _ _ _ _ _ _ _ _ _ a filled)
 
 same-length : tie.Need-same-length
 same-length c = search needs
