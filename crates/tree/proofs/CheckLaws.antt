@@ -13,7 +13,7 @@ use Rattle.grammar.specs.Given.{grammarGiven}
 use Rattle.grammar.specs.Starts.{Starts}
 use Rattle.grammar.proofs.Accepted.{accepted, whole}
 use Rattle.grammar.proofs.Encoded.{category-count, rule-count, sections-within, sections-proper}
-use Rattle.tree.specs.Sets.{Work}
+use Rattle.tree.specs.Sets.{WorkKept}
 use Rattle.tree.specs.Searchable.{Searchable}
 
 -- the grammar that accepted bytes stand for
@@ -29,7 +29,7 @@ module _ (g : List ℕ) (s : Sections) (read : readOf g ≡ Accepted s) where
 
 -- accepted bytes, where their rules stand, and memory that keeps the chart and the depths are ready to be searched
 pub searchable : (g : List ℕ) (s : Sections) (starts line words depths : List ℕ) → readOf g ≡ Accepted s → Starts g s starts → length line ≤ 63 →
-    chartSize (s .categories) (length line) ≤ length words → depthsSize (s .categories) (length line) ≤ length depths → Work (grammarGiven g) line words depths →
+    chartSize (s .categories) (length line) ≤ length words → depthsSize (s .categories) (length line) ≤ length depths → WorkKept (grammarGiven g) line words depths →
     Searchable (grammarGiven g) g starts line words depths
 searchable g s starts line words depths read found short rows room work =
     let sec = accepted g s read .0 in

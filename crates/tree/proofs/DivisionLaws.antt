@@ -1,5 +1,5 @@
 -- The memory of a category, and jumps from member to member of a set.
-use Prim.Native.Nat.{ℕ, zero, suc, _+_, _-_, _*_, _%_, _^_, _≤_, _<_}
+use Prim.Native.Nat.{ℕ, suc, _+_, _-_, _*_, _%_, _^_, _≤_, _<_}
 use mathlib.Core.Path.{_≡_, refl, subst}
 use mathlib.Core.Logic.{_↔_, _⊎_, inl, inr, ⊎-elim}
 use mathlib.Core.Bool.{Bool, true, false, not, false≢true}
@@ -23,7 +23,7 @@ use Rattle.derivation.specs.Within.{ChildWithin, ChildrenWithin}
 use Rattle.derivation.proofs.Prefix.{within-then, within-token, within-category}
 use Rattle.checks.specs.Memory.{chartSize, depthsSize}
 use Rattle.filling.proofs.RowLaws.{row-inside}
-use Rattle.tree.specs.Kept.{rowAt, Charted}
+use Rattle.tree.specs.Kept.{rowAt, RowsKept}
 use Rattle.tree.specs.Sets.{CategoryKnown, ClassBefore, MayServe}
 
 -- the places of a row and of a depth are in the memory
@@ -125,7 +125,7 @@ module _ (line words : List ℕ) (rule : Rule) (A i j : ℕ) where
   pub serve-empty : rule .left ≡ A → length (rule .right) ≡ 0 → MayServe line words rule A i j (eqb i j)
   serve-empty l z = record {
     passes = λ q. (l, λ y. eqb-true i j q);
-    fails = λ q y G charted known h v. eqb-false i j q (none-within (subst (λ (s : List ℕ). ChildrenWithin G line h s i j) (nil-of (rule .right) z) v));
+    fails = λ q y G rows known h v. eqb-false i j q (none-within (subst (λ (s : List ℕ). ChildrenWithin G line h s i j) (nil-of (rule .right) z) v));
   }
     where
       nil-of : (s : List ℕ) → length s ≡ 0 → s ≡ []
@@ -133,19 +133,19 @@ module _ (line words : List ℕ) (rule : Rule) (A i j : ℕ) where
       nil-of (c ∷ s) e = absurd (omega arith)
 
   module _ (l : rule .left ≡ A) (some : 0 < length (rule .right)) where
-    serve-first : (r : Bool) → (r ≡ false → (G : Grammar) → Charted G line words → CategoryKnown G (getD (rule .right) 0 0) → (h e : ℕ) → ChildWithin G line h (getD (rule .right) 0 0) i e → ⊥) →
+    serve-first : (r : Bool) → (r ≡ false → (G : Grammar) → RowsKept G line words → CategoryKnown G (getD (rule .right) 0 0) → (h e : ℕ) → ChildWithin G line h (getD (rule .right) 0 0) i e → ⊥) →
         MayServe line words rule A i j r
     serve-first r n = record {
       passes = λ q. (l, λ z. absurd (omega arith));
-      fails = λ q y G charted known h v. let a = first-ends (rule .right) some v in n q G charted (known some) h (a .0) (a .1);
+      fails = λ q y G rows known h v. let a = first-ends (rule .right) some v in n q G rows (known some) h (a .0) (a .1);
     }
 
     pub serve-row : 128 ≤ getD (rule .right) 0 0 → i ≤ length line → MayServe line words rule A i j (not (eqb (rowAt words (length line) (getD (rule .right) 0 0 - 128) i) 0))
-    serve-row k a = serve-first _ (λ q G charted known h e v.
-        none-member e (subst (λ (x : ℕ). Member x e) (eqb-true _ 0 (not-false _ q)) (charted _ i (known k) a e .1 (within-category k v .tree))))
+    serve-row k a = serve-first _ (λ q G rows known h e v.
+        none-member e (subst (λ (x : ℕ). Member x e) (eqb-true _ 0 (not-false _ q)) (rows _ i (known k) a e .1 (within-category k v .tree))))
 
     pub serve-past : getD (rule .right) 0 0 < 128 → length line ≤ i → MayServe line words rule A i j false
-    serve-past k a = serve-first false (λ q G charted known h e v. omega (arith, within-token k v .0))
+    serve-past k a = serve-first false (λ q G rows known h e v. omega (arith, within-token k v .0))
 
     pub serve-token : getD (rule .right) 0 0 < 128 → MayServe line words rule A i j (eqb (getD line i 0) (getD (rule .right) 0 0))
-    serve-token k = serve-first _ (λ q G charted known h e v. eqb-false _ _ q (within-token k v .1))
+    serve-token k = serve-first _ (λ q G rows known h e v. eqb-false _ _ q (within-token k v .1))

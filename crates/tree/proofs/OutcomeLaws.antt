@@ -18,7 +18,7 @@ use Rattle.tree.specs.declared.TreeAnswer.{TreeAnswer}
 use Rattle.tree.specs.declared.TreeAnswer.the-variants as tree
 use Rattle.tree.specs.Bytes.{bytes, wrote}
 use Rattle.chart.proofs.CheckLaws.{Passes, grammar-is, early-passed}
-use Rattle.tree.specs.Kept.{Kept, Charted}
+use Rattle.tree.specs.Kept.{Kept, RowsKept}
 use Rattle.tree.specs.Checks.{treeFact, treeRoom, treeChecks}
 use Rattle.tree.specs.Shows.{Shows}
 use Rattle.tree.specs.Shows as shows
@@ -35,8 +35,8 @@ module _ {g line : List ℕ} {asked : Asked} {n m : ℕ} {s : Sections} (passes 
   pub filled-kept : Kept (grammarGiven g) line depths′
   filled-kept = rw (grammar-is passes) (filled .depth)
 
-  pub filled-charted : Charted (grammarGiven g) line words′
-  filled-charted = rw (grammar-is passes) (filled .word)
+  pub filled-rows : RowsKept (grammarGiven g) line words′
+  filled-rows = rw (grammar-is passes) (filled .word)
 
 module _ (g line : List ℕ) (A i j : ℕ) (words depths out : List ℕ) where
   pub tree-turned : (refusal : Refusal) → early (treeChecks g line A i j words depths out) ≡ check.Refused refusal → TreeOutcome g line A i j words depths out (tree.Refused refusal) words depths out

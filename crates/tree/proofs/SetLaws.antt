@@ -1,14 +1,14 @@
 -- The first end of a symbol in a set, the starts before a set, and the sets of a rule's symbols, made from the right.
-use Prim.Native.Nat.{ℕ, zero, suc, _+_, _-_, _*_, _≤_, _<_}
-use mathlib.Core.Path.{_≡_, refl, sym, _∙_, subst}
+use Prim.Native.Nat.{ℕ, zero, suc, _+_, _-_, _≤_, _<_}
+use mathlib.Core.Path.{_≡_, _∙_}
 use mathlib.Core.Logic.{_↔_, _⊎_, inl, inr, ⊎-elim}
-use mathlib.Core.List.{List, []}
+use mathlib.Core.List.{List}
 use native.Mathlib.Nat.{eq-or-lt-of-le, le-of-suc-le-suc}
 use native.Mathlib.Numerals.{add-one}
 use native.Mathlib.Decide.{decLt, ℕ-discrete}
 use native.Mathlib.Omega.{arith}
 use lib.Bits.{bitAnd}
-use lib.ListN.{length, getD, drop, set, length-set}
+use lib.ListN.{length, getD, drop, set}
 use lib.Seq.{drop-cons, drop-length, getD-set-same, getD-set-other}
 use Rattle.positions.specs.Member.{Member}
 use Rattle.positions.specs.With.{With}
@@ -16,11 +16,11 @@ use Rattle.positions.proofs.Members.{none-member, and-member}
 use Rattle.derivation.specs.Grammar.{Grammar}
 use Rattle.derivation.specs.Fact.{Fact}
 use Rattle.derivation.specs.Depth.{DepthIs, noFact, deep}
-use Rattle.derivation.specs.Within.{Within, ChildWithin, ChildrenWithin}
+use Rattle.derivation.specs.Within.{Within, ChildrenWithin}
 use Rattle.derivation.proofs.Within.{child-inside}
 use Rattle.derivation.proofs.Prefix.{empty-within, then-within, within-then, token-within, category-within, within-token, within-category}
 use Rattle.tree.specs.Kept.{rowAt, depthAt}
-use Rattle.tree.specs.Sets.{CategoryKnown, Work, FirstThat, Leads, FirstEnd, ClassBefore, Before, Sets}
+use Rattle.tree.specs.Sets.{CategoryKnown, WorkKept, FirstThat, Leads, FirstEnd, ClassBefore, Before, Sets}
 use Rattle.tree.proofs.DivisionLaws.{none-within}
 
 -- the depth kept for a fact is at most h exactly where it has a tree so low
@@ -34,7 +34,7 @@ module _ (line words depths : List ℕ) (h c set m : ℕ) where
       FirstThat (λ e. Member (bitAnd (rowAt words (length line) (c - 128) m) set) e × (depthAt depths (length line) (c - 128) m e ≤ h)) r →
       FirstEnd line words depths h c set m r
   end-category r k a inside f G work known =
-      let row = work .charted (c - 128) m (known k) a in
+      let row = work .rows (c - 128) m (known k) a in
       let low : (e : ℕ) → e ≤ length line → Fact G line (c - 128) m e → (depthAt depths (length line) (c - 128) m e ≤ h) ↔ Within G line h (c - 128) m e =
       λ e b t. kept-within h (work .kept (c - 128) m e (known k) a b) t in
       record {
@@ -78,7 +78,7 @@ class-before line words depths h c set start end r k b inside found = record {
 pub record BeforeBelow (line words depths : List ℕ) (h c set start end m r : ℕ) : Type 0 where
   pub after : start ≤ m
   pub inside : (x : ℕ) → Member r x → x ≤ end
-  pub exact : (G : Grammar) → Work G line words depths → CategoryKnown G c → (x : ℕ) → Member r x ↔ ((start ≤ x) × (x < m) × ((e : ℕ) × Leads G line h c set x e))
+  pub exact : (G : Grammar) → WorkKept G line words depths → CategoryKnown G c → (x : ℕ) → Member r x ↔ ((start ≤ x) × (x < m) × ((e : ℕ) × Leads G line h c set x e))
 
 module _ (line words depths : List ℕ) (h c set start end : ℕ) where
   pub before-none : BeforeBelow line words depths h c set start end start 0
@@ -121,11 +121,10 @@ module _ (line words depths : List ℕ) (h c set start end : ℕ) where
 -- the sets of the symbols from d on; the others are empty
 pub record SetsFrom (line words depths : List ℕ) (h : ℕ) (symbols : List ℕ) (start end d : ℕ) (sets : List ℕ) : Type 0 where
   pub low : d ≤ length symbols
-  pub stays : 0 < length symbols → 0 < d
   pub inside : (x m : ℕ) → Member (getD sets x 0) m → m ≤ end
   pub rest : (x : ℕ) → x < d → getD sets x 0 ≡ 0
   pub exact :
-      (G : Grammar) → Work G line words depths → ((x : ℕ) → x < length symbols → CategoryKnown G (getD symbols x 0)) →
+      (G : Grammar) → WorkKept G line words depths → ((x : ℕ) → x < length symbols → CategoryKnown G (getD symbols x 0)) →
       (x : ℕ) → d ≤ x → x ≤ length symbols → (m : ℕ) → Member (getD sets x 0) m ↔ ((start ≤ m) × ChildrenWithin G line h (drop x symbols) m end)
 
 cases : {P Q : Type 0} → Dec P → (P → Q) → ((P → ⊥) → Q) → Q
@@ -142,7 +141,6 @@ module _ (line words depths : List ℕ) (h : ℕ) (symbols : List ℕ) (start en
       let only : (m : ℕ) → Member word m → m ≡ end = λ m x. ⊎-elim (λ y. absurd (none-member m y)) (λ q. q) (w m .0 x) in
       record {
         low = omega arith;
-        stays = λ l. l;
         inside = λ x m y. cases (ℕ-discrete x (length symbols))
             (λ (q : x ≡ length symbols). let e : m ≡ end = only m (rw (q, here) at y) in omega arith)
             (λ n. absurd (none-member m (rw (other x n) at y)));
@@ -161,7 +159,6 @@ module _ (line words depths : List ℕ) (h : ℕ) (symbols : List ℕ) (start en
         SetsFrom line words depths h symbols start end (d - 1) (set sets (d - 1) word)
     sets-more word pos b = record {
       low = omega (arith, x .low);
-      stays = λ l. omega arith;
       inside = λ y m z. cases (ℕ-discrete y (d - 1)) (λ (q : y ≡ d - 1). b .inside m (rw (q, here) at z)) (λ n. x .inside y m (rw (other y n) at z));
       rest = λ y l. other y (λ q. omega arith) ∙ x .rest y (omega arith);
       exact = λ G work known y l k m. ⊎-elim
@@ -196,7 +193,7 @@ module _ (line words depths : List ℕ) (h : ℕ) (symbols : List ℕ) (start en
           (λ n. x .exact G work known y (omega arith) k m);
     }
       where
-        none : (G : Grammar) → Work G line words depths → ((y : ℕ) → y < length symbols → CategoryKnown G (getD symbols y 0)) → (t y : ℕ) → y + t ≡ d → (m : ℕ) → start ≤ m → ChildrenWithin G line h (drop y symbols) m end → ⊥
+        none : (G : Grammar) → WorkKept G line words depths → ((y : ℕ) → y < length symbols → CategoryKnown G (getD symbols y 0)) → (t y : ℕ) → y + t ≡ d → (m : ℕ) → start ≤ m → ChildrenWithin G line h (drop y symbols) m end → ⊥
         none G work known zero y q m a v =
             let z : y ≡ d = omega arith in
             none-member m (rw e at (x .exact G work known d (omega arith) (x .low) m .1 (a, rw z at v)))

@@ -28,7 +28,7 @@ abbrev pub Kept : Grammar → List ℕ → List ℕ → Type 0
 Kept G line depths =
     (A i j : ℕ) → A < length (G .categories) → i ≤ length line → j ≤ length line → DepthIs G line A i j (depthAt depths (length line) A i j)
 
--- and their ends
-abbrev pub Charted : Grammar → List ℕ → List ℕ → Type 0
-Charted G line words =
+-- and their ends, a row for each category and start
+abbrev pub RowsKept : Grammar → List ℕ → List ℕ → Type 0
+RowsKept G line words =
     (A i : ℕ) → A < length (G .categories) → i ≤ length line → (j : ℕ) → Member (rowAt words (length line) A i) j ↔ Fact G line A i j

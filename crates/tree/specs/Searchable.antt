@@ -7,7 +7,7 @@ use Rattle.derivation.specs.Grammar.{Grammar, Proper, ruleAt}
 use Rattle.derivation.specs.Table.{depthOf}
 use Rattle.checks.specs.Memory.{chartSize, depthsSize}
 use Rattle.grammar.specs.Value.{Stands, standing}
-use Rattle.tree.specs.Sets.{CategoryKnown, Work}
+use Rattle.tree.specs.Sets.{CategoryKnown, WorkKept}
 
 pub record Searchable (G : Grammar) (g starts line words depths : List ℕ) : Type 0 where
   pub proper : Proper G
@@ -16,7 +16,7 @@ pub record Searchable (G : Grammar) (g starts line words depths : List ℕ) : Ty
   pub is : (p : ℕ) → p < length (G .rules) → standing g (getD starts p 0) ≡ ruleAt G p
   pub symbols : (p : ℕ) → p < length (G .rules) → (d : ℕ) → d < length (ruleAt G p .right) → CategoryKnown G (getD (ruleAt G p .right) d 0)
   pub short : length line ≤ 63
-  pub work : Work G line words depths
+  pub work : WorkKept G line words depths
   pub rows : chartSize (length (G .categories)) (length line) ≤ length words
   pub room : depthsSize (length (G .categories)) (length line) ≤ length depths
 

@@ -27,7 +27,6 @@ pub fn count_nodes(
 {
     let found = search(g, starts, line, words, depths, category, start, end, depth);
     let rule = found.rule;
-    let ends = found.ends;
     let symbols = rule_symbols(g, starts[rule]);
     let mut count: usize = 1;
     let mut d = 0;
@@ -40,8 +39,8 @@ pub fn count_nodes(
             count += 1;
         } else {
             let b = symbol - 128;
-            let m = ends[d];
-            let e = ends[d + 1];
+            let m = found.ends[d];
+            let e = found.ends[d + 1];
             let deep = depth_at(depths, line.len(), b, m, e);
             let more = count_nodes(g, starts, line, words, depths, b, m, e, deep, limit - count);
             count += more;

@@ -32,14 +32,13 @@ pub fn write(
 {
     let found = search(g, starts, line, words, depths, category, start, end, depth);
     let rule = found.rule;
-    let ends = found.ends;
     let symbols = rule_symbols(g, starts[rule]);
     let mut place = put_node(out, at, rule_node(rule, start, end));
     let mut d = 0;
     while d < symbols.len() {
         let symbol = symbols[d];
-        let m = ends[d];
-        let e = ends[d + 1];
+        let m = found.ends[d];
+        let e = found.ends[d + 1];
         if symbol < 128 {
             place = put_node(out, place, token_node(symbol, m, e));
         } else {

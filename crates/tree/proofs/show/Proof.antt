@@ -31,7 +31,7 @@ node c =
 ready : (c : tie.After-rule-starts-of) →
     let a = c .before .before .before .before .before .before .before .before .args in
     Searchable (grammarGiven (now (a .g))) (now (a .g)) (c .rule-starts-of .result) (now (a .line)) (now (a .words)) (now (a .depths))
-ready c = let p = c .before .before .before .before .before .before .before .before .pre in searchable _ _ _ _ _ _ (p .0) (c .rule-starts-of .ensures) (p .1) (p .7) (p .5) (record { kept = p .6; charted = p .8 })
+ready c = let p = c .before .before .before .before .before .before .before .before .pre in searchable _ _ _ _ _ _ (p .0) (c .rule-starts-of .ensures) (p .1) (p .7) (p .5) (record { kept = p .6; rows = p .8 })
 
 count-nodes-requires : tie.Need-count-nodes-requires
 count-nodes-requires c κs = (ready (c .before), node (c .before .before), omega arith)

@@ -1,7 +1,5 @@
 -- `tree::tree` meets its contract: at each `return` what the checks, the filling and the showing gave is the outcome.
-use Prim.Native.Nat.{_≤_}
 use mathlib.Core.Path.{sym, _∙_}
-use native.Mathlib.Omega.{arith}
 use lib.ListN.{length}
 use denote.Ref.{now}
 use Rattle.checks.specs.declared.Asked.the-variants.{Span}
@@ -10,7 +8,7 @@ use Rattle.grammar.specs.Reading.{readOf}
 use Rattle.grammar.specs.Given.{grammarGiven}
 use Rattle.chart.proofs.CheckLaws.{Passes, checked-refused, checked-accepted, sections, line-is, asked-is, memory-is}
 use Rattle.tree.specs.Checks.{treeFact, treeRoom}
-use Rattle.tree.proofs.OutcomeLaws.{tree-turned, filled-kept, filled-charted, tree-shown}
+use Rattle.tree.proofs.OutcomeLaws.{tree-turned, filled-kept, filled-rows, tree-shown}
 use borrow.Author.Needs.{needs}
 use Rattle.tree.proofs.tree.Statement.{statement}
 use Rattle.tree.proofs.tree.Tie as tie
@@ -55,7 +53,7 @@ show-requires c κs =
     let p = passes (asked filled) in
     let span = span-passed _ _ _ _ _ (asked-is p) in
     let work = filled .fill .ensures .work in
-    (p .read, line-is p .short, span .0, span .1, span .2, rw (work .depths-long) (memory-is p .1), filled-kept p work, rw (work .words-long) (memory-is p .0), filled-charted p work)
+    (p .read, line-is p .short, span .0, span .1, span .2, rw (work .depths-long) (memory-is p .1), filled-kept p work, rw (work .words-long) (memory-is p .0), filled-rows p work)
 
 same-length : tie.Need-same-length
 same-length c = search needs

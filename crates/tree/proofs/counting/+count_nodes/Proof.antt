@@ -42,18 +42,18 @@ claims t = (
 )
 
 abbrev Inv-loop : lts.InvT-loop
-Inv-loop g starts line words depths category start end depth limit rule ends symbols count₀ d₀ count d =
-    CountTurn (grammarGiven g) line (depth - 1) symbols end limit (length (shown (grammarGiven g) line category start end)) d (getD ends d 0) count
+Inv-loop g starts line words depths category start end depth limit found rule symbols count₀ d₀ count d =
+    CountTurn (grammarGiven g) line (depth - 1) symbols end limit (length (shown (grammarGiven g) line category start end)) d (getD (found .ends) d 0) count
 
 abbrev μ-loop : lts.MeasureT-loop
-μ-loop g starts line words depths category start end depth limit rule ends symbols count₀ d₀ count d = length symbols - d
+μ-loop g starts line words depths category start end depth limit found rule symbols count₀ d₀ count d = length symbols - d
 
 module _ (t : ℕ) where
   abbrev asked : lts.After-search (claims t) (at t) count-nodes.Post Inv-loop μ-loop → lts.Start (claims t) (at t) count-nodes.Post Inv-loop μ-loop
   asked c = c .before .before .before .before .before
 
   abbrev searched : lts.At-loop (claims t) (at t) count-nodes.Post Inv-loop μ-loop → lts.After-search (claims t) (at t) count-nodes.Post Inv-loop μ-loop
-  searched c = c .before .before .before .before
+  searched c = c .before .before .before
 
   -- the rule that is found is one of at most 128
   inside : (c : lts.After-search (claims t) (at t) count-nodes.Post Inv-loop μ-loop) → c .search .result .rule < 128
@@ -81,17 +81,17 @@ module _ (t : ℕ) where
   search-requires c κs = let p = c .before .before .before .before .pre .1 in (p .0, p .1)
 
   mul-rule-symbols : lts.Need-mul-rule-symbols (claims t) (at t) count-nodes.Post Inv-loop μ-loop
-  mul-rule-symbols c = omega (arith, inside (c .before))
+  mul-rule-symbols c = omega (arith, inside c)
 
   element-copy-out-rule-symbols : lts.Need-element-copy-out-rule-symbols (claims t) (at t) count-nodes.Post Inv-loop μ-loop
-  element-copy-out-rule-symbols c = inside (c .before)
+  element-copy-out-rule-symbols c = inside c
 
   rule-symbols-requires : lts.Need-rule-symbols-requires (claims t) (at t) count-nodes.Post Inv-loop μ-loop
-  rule-symbols-requires c κs = let r = c .before .before in asked r .pre .1 .0 .stands _ (found-inside _ _ _ _ _ _ (asked r .pre .1 .0) _ _ _ _ (asked r .pre .1 .1) _ (r .search .ensures))
+  rule-symbols-requires c κs = let r = c .before in asked r .pre .1 .0 .stands _ (found-inside _ _ _ _ _ _ (asked r .pre .1 .0) _ _ _ _ (asked r .pre .1 .1) _ (r .search .ensures))
 
   loop-holds : lts.Need-loop-holds (claims t) (at t) count-nodes.Post Inv-loop μ-loop
   loop-holds c =
-      let r = c .before .before .before in
+      let r = c .before .before in
       let p = asked r .pre .1 in
       count-begin _ _ _ _ _ _ _ (r .search .result .rule) (asked r .args .start) (getD (r .search .result .ends) 0 0) (ap length (turn-shown _ _ _ _ _ _ (p .0) _ _ _ _ (p .1) _ (r .search .ensures) _ (c .rule-symbols .ensures)))
 
@@ -110,37 +110,39 @@ module _ (t : ℕ) where
   mul-m : lts.Need-mul-m (claims t) (at t) count-nodes.Post Inv-loop μ-loop
   mul-m c = omega (arith, few (c .before .before .before))
 
-  array-read-m : lts.Need-array-read-m (claims t) (at t) count-nodes.Post Inv-loop μ-loop
-  array-read-m c = omega (arith, few (c .before .before .before))
+  element-copy-out-m : lts.Need-element-copy-out-m (claims t) (at t) count-nodes.Post Inv-loop μ-loop
+  element-copy-out-m c = omega (arith, few (c .before .before .before))
 
   add-e : lts.Need-add-e (claims t) (at t) count-nodes.Post Inv-loop μ-loop
-  add-e c = omega (arith, few (c .before .before .before))
+  add-e c = omega (arith, few (c .before .before .before .before))
 
   mul-e : lts.Need-mul-e (claims t) (at t) count-nodes.Post Inv-loop μ-loop
-  mul-e c = omega (arith, few (c .before .before .before))
+  mul-e c = omega (arith, few (c .before .before .before .before))
 
-  array-read-e : lts.Need-array-read-e (claims t) (at t) count-nodes.Post Inv-loop μ-loop
-  array-read-e c = omega (arith, few (c .before .before .before))
+  element-copy-out-e : lts.Need-element-copy-out-e (claims t) (at t) count-nodes.Post Inv-loop μ-loop
+  element-copy-out-e c = omega (arith, few (c .before .before .before .before))
 
   depth-at-requires : lts.Need-depth-at-requires (claims t) (at t) count-nodes.Post Inv-loop μ-loop
   depth-at-requires c κs =
-      let i = c .before .before .before in
+      let o = c .before .before in
+      let i = o .before .before .before in
       let r = searched (i .before) in
       let p = asked r .pre .1 in
-      (p .0 .short, next i .start, next i .inside, turn-fit _ _ _ _ _ _ (p .0) _ _ _ _ (p .1) _ (r .search .ensures) _ (i .before .before .rule-symbols .ensures) _ (i .loop-test .taken) (c .if2 .left))
+      (p .0 .short, next i .start, next i .inside, turn-fit _ _ _ _ _ _ (p .0) _ _ _ _ (p .1) _ (r .search .ensures) _ (i .before .before .rule-symbols .ensures) _ (i .loop-test .taken) (o .if2 .left))
 
   count-nodes-requires : lts.Need-count-nodes-requires (claims t) (at t) count-nodes.Post Inv-loop μ-loop
   count-nodes-requires c κs =
-      let i = c .before .before .before .before in
+      let o = c .before .before .before in
+      let i = o .before .before .before in
       let r = searched (i .before) in
       let p = asked r .pre in
       let e = c .depth-at .ensures in
-      let n = child-node _ _ _ _ _ _ (p .1 .0) _ _ _ _ (p .1 .1) _ (r .search .ensures) _ (i .before .before .rule-symbols .ensures) _ (i .loop-test .taken) (c .before .if2 .left) in
+      let n = child-node _ _ _ _ _ _ (p .1 .0) _ _ _ _ (p .1 .1) _ (r .search .ensures) _ (i .before .before .rule-symbols .ensures) _ (i .loop-test .taken) (o .if2 .left) in
       (omega (arith, e, n .1, p .0), (p .1 .0, rw e (n .0), omega (arith, p .1 .2)))
 
   add-count-2 : lts.Need-add-count-2 (claims t) (at t) count-nodes.Post Inv-loop μ-loop
   add-count-2 c =
-      let o = c .before .before .before .before in
+      let o = c .before .before .before .before .before .before in
       omega (arith, c .count-nodes .ensures .most, o .if1 .left, asked (searched (o .before .before)) .pre .1 .2)
 
   add-d : lts.Need-add-d (claims t) (at t) count-nodes.Post Inv-loop μ-loop
@@ -157,7 +159,7 @@ module _ (t : ℕ) where
       let k = i .loop-test .taken in
       ⊎-elim
       (λ w. rw (w .1) (count-token _ _ _ _ _ _ _ (l .d) _ _ (l .count) k (o .if1 .left) (next i) (l .inv) (w .0 .taken)))
-      (λ w. rw (w .3) (count-category _ _ _ _ _ _ _ (l .d) _ _ (l .count) k (o .if1 .left) (next i) (l .inv) (w .0 .left) _ (w .2 .ensures)))
+      (λ w. rw (w .5) (count-category _ _ _ _ _ _ _ (l .d) _ _ (l .count) k (o .if1 .left) (next i) (l .inv) (w .0 .left) _ (w .4 .ensures)))
       (c .if2 .came)
 
   returns-2 : lts.Need-returns-2 (claims t) (at t) count-nodes.Post Inv-loop μ-loop
@@ -175,10 +177,10 @@ pub +count-nodes-spec : {M : Type 1} → statement M
     (cast-symbol t)
     (add-count t)
     (mul-m t)
-    (array-read-m t)
+    (element-copy-out-m t)
     (add-e t)
     (mul-e t)
-    (array-read-e t)
+    (element-copy-out-e t)
     (depth-at-requires t)
     (count-nodes-requires t)
     (add-count-2 t)

@@ -1,6 +1,5 @@
 -- `tree::division::class_starts` meets its contract. The loop's invariant: of the set, the members that have left are tried.
 use Prim.Native.Nat.{_-_}
-use mathlib.Core.Path.{_∙_}
 use mathlib.Core.Logic.{⊎-elim}
 use native.Mathlib.Omega.{arith}
 use borrow.Author.Needs.{needs}

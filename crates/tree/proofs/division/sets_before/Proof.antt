@@ -1,5 +1,5 @@
 -- `tree::division::sets_before` meets its contract. The loop's invariant: the sets from d on are made.
-use Prim.Native.Nat.{ℕ, _-_, _≤_, _<_}
+use Prim.Native.Nat.{_-_, _≤_, _<_}
 use mathlib.Core.Path.{_≡_, refl, sym, _∙_}
 use mathlib.Core.List.{replicate}
 use native.Mathlib.Omega.{arith}

@@ -1,8 +1,7 @@
 -- `tree::division::starts_before` meets its contract. The loop's invariant: the set has the starts below m.
-use Prim.Native.Nat.{ℕ, _+_, _-_, _≤_}
+use Prim.Native.Nat.{_+_, _-_}
 use mathlib.Core.Logic.{⊎-elim}
 use native.Mathlib.Nat.{le-trans}
-use native.Mathlib.Omega.{arith}
 use borrow.Author.Needs.{needs}
 use Rattle.tree.proofs.SetLaws.{class-before, BeforeBelow, before-none, before-more, before-skip, before-all}
 use Rattle.tree.proofs.division.starts_before.Statement.{statement}

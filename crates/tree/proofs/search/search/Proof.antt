@@ -10,7 +10,6 @@ use Rattle.derivation.specs.Table.{depthOf}
 use Rattle.derivation.specs.Shown.{chosenRule}
 use Rattle.grammar.specs.Given.{grammarGiven}
 use Rattle.tree.proofs.SearchLaws.{SearchTurn, symbols-few, symbols-known, symbols-fit, node-rises, rule-inside, rule-after, rule-found, turn-begin, turn-inside, turn-fails, turn-whole, turn-next}
-use borrow.Author.Needs.{needs}
 use borrow.Author.Tests.{not-true, not-false}
 use Rattle.tree.proofs.search.search.Statement.{statement}
 use Rattle.tree.proofs.search.search.Tie as tie
@@ -66,7 +65,7 @@ search-again : tie.Need-search-again Inv-loop μ-loop Inv-search μ-search
 search-again c =
     let r = c .before .before .before in
     let s = asked r in
-    rule-after _ _ _ _ _ _ (s .pre .0) _ _ _ _ (s .pre .1) _ (r .search .inv) _ refl (λ e v. c .before .may-serve .ensures .fails (not-true _ (c .if1 .taken)) e _ (s .pre .0 .work .charted) (λ l. symbols-known _ _ _ _ _ _ (s .pre .0) _ (inside r) 0 l) _ v)
+    rule-after _ _ _ _ _ _ (s .pre .0) _ _ _ _ (s .pre .1) _ (r .search .inv) _ refl (λ e v. c .before .may-serve .ensures .fails (not-true _ (c .if1 .taken)) e _ (s .pre .0 .work .rows) (λ l. symbols-known _ _ _ _ _ _ (s .pre .0) _ (inside r) 0 l) _ v)
 
 rule-symbols-requires : tie.Need-rule-symbols-requires Inv-loop μ-loop Inv-search μ-search
 rule-symbols-requires c κs = let r = c .before .before .before in asked r .pre .0 .stands _ (inside r)

@@ -54,18 +54,18 @@ claims t = (
 )
 
 abbrev Inv-loop : lts.InvT-loop
-Inv-loop g starts line words depths category start end depth out₀ at rule ends symbols place₀ d₀ out place d =
-    WriteTurn (grammarGiven g) line (depth - 1) symbols end out₀ place₀ (bytes (rowFrom (grammarGiven g) line (depth - 1) symbols end 0 (getD ends 0 0))) d (getD ends d 0) place out
+Inv-loop g starts line words depths category start end depth out₀ at found rule symbols place₀ d₀ out place d =
+    WriteTurn (grammarGiven g) line (depth - 1) symbols end out₀ place₀ (bytes (rowFrom (grammarGiven g) line (depth - 1) symbols end 0 (getD (found .ends) 0 0))) d (getD (found .ends) d 0) place out
 
 abbrev μ-loop : lts.MeasureT-loop
-μ-loop g starts line words depths category start end depth out₀ at rule ends symbols place₀ d₀ out place d = length symbols - d
+μ-loop g starts line words depths category start end depth out₀ at found rule symbols place₀ d₀ out place d = length symbols - d
 
 module _ (t : ℕ) where
   abbrev asked : lts.After-search (claims t) (at t) write.Post Inv-loop μ-loop → lts.Start (claims t) (at t) write.Post Inv-loop μ-loop
   asked c = c .before .before .before .before .before .before
 
   abbrev searched : lts.After-rule-symbols (claims t) (at t) write.Post Inv-loop μ-loop → lts.After-search (claims t) (at t) write.Post Inv-loop μ-loop
-  searched c = c .before .before .before
+  searched c = c .before .before
 
   abbrev symbols : lts.At-loop (claims t) (at t) write.Post Inv-loop μ-loop → lts.After-rule-symbols (claims t) (at t) write.Post Inv-loop μ-loop
   symbols c = c .before .before .before .before .before .before
@@ -109,13 +109,13 @@ module _ (t : ℕ) where
   search-requires c κs = let p = c .before .before .before .before .before .pre .1 in (p .0, p .1)
 
   mul-rule-symbols : lts.Need-mul-rule-symbols (claims t) (at t) write.Post Inv-loop μ-loop
-  mul-rule-symbols c = omega (arith, inside (c .before))
+  mul-rule-symbols c = omega (arith, inside c)
 
   element-copy-out-rule-symbols : lts.Need-element-copy-out-rule-symbols (claims t) (at t) write.Post Inv-loop μ-loop
-  element-copy-out-rule-symbols c = inside (c .before)
+  element-copy-out-rule-symbols c = inside c
 
   rule-symbols-requires : lts.Need-rule-symbols-requires (claims t) (at t) write.Post Inv-loop μ-loop
-  rule-symbols-requires c κs = let r = c .before .before in asked r .pre .1 .0 .stands _ (found-inside _ _ _ _ _ _ (asked r .pre .1 .0) _ _ _ _ (asked r .pre .1 .1) _ (r .search .ensures))
+  rule-symbols-requires c κs = let r = c .before in asked r .pre .1 .0 .stands _ (found-inside _ _ _ _ _ _ (asked r .pre .1 .0) _ _ _ _ (asked r .pre .1 .1) _ (r .search .ensures))
 
   rule-node-requires : lts.Need-rule-node-requires (claims t) (at t) write.Post Inv-loop μ-loop
   rule-node-requires c κs =
@@ -140,40 +140,40 @@ module _ (t : ℕ) where
   mul-m : lts.Need-mul-m (claims t) (at t) write.Post Inv-loop μ-loop
   mul-m c = omega (arith, few (c .before))
 
-  array-read-m : lts.Need-array-read-m (claims t) (at t) write.Post Inv-loop μ-loop
-  array-read-m c = omega (arith, few (c .before))
+  element-copy-out-m : lts.Need-element-copy-out-m (claims t) (at t) write.Post Inv-loop μ-loop
+  element-copy-out-m c = omega (arith, few (c .before))
 
   add-e : lts.Need-add-e (claims t) (at t) write.Post Inv-loop μ-loop
-  add-e c = omega (arith, few (c .before))
+  add-e c = omega (arith, few (c .before .before))
 
   mul-e : lts.Need-mul-e (claims t) (at t) write.Post Inv-loop μ-loop
-  mul-e c = omega (arith, few (c .before))
+  mul-e c = omega (arith, few (c .before .before))
 
-  array-read-e : lts.Need-array-read-e (claims t) (at t) write.Post Inv-loop μ-loop
-  array-read-e c = omega (arith, few (c .before))
+  element-copy-out-e : lts.Need-element-copy-out-e (claims t) (at t) write.Post Inv-loop μ-loop
+  element-copy-out-e c = omega (arith, few (c .before .before))
 
   token-node-requires : lts.Need-token-node-requires (claims t) (at t) write.Post Inv-loop μ-loop
   token-node-requires c κs =
-      let i = c .before .before .before in
+      let i = c .before .before .before .before .before in
       let short = asked (searched (symbols (i .before))) .pre .1 .0 .short in
       (le-trans (next i .start) short, le-trans (next i .inside) short)
 
   put-node-requires-2 : lts.Need-put-node-requires-2 (claims t) (at t) write.Post Inv-loop μ-loop
   put-node-requires-2 c κs =
-      let i = c .before .before .before .before in
+      let i = c .before .before .before .before .before .before in
       let l = i .before in
       let n = l .before .before .before in
       token-room _ _ _ _ _ _ _ _ _ _ (shows (symbols l)) (asked (searched (symbols l)) .pre .1 .2) _ _ (n .put-node .ensures .0) (rw (n .before .rule-node .ensures) at (n .put-node .ensures .1)) _ _ _ _ _ (i .loop-test .taken) (next i) (l .loop .inv) (c .before .before .if1 .taken)
 
   cast-b : lts.Need-cast-b (claims t) (at t) write.Post Inv-loop μ-loop
-  cast-b c = omega (arith, c .before .shared-slice-known5 .given (c .before .before .before .loop .d))
+  cast-b c = let x = c .before .before .before in omega (arith, x .shared-slice-known5 .given (x .before .before .loop .d))
 
   sub-b : lts.Need-sub-b (claims t) (at t) write.Post Inv-loop μ-loop
   sub-b c = search needs
 
   depth-at-requires : lts.Need-depth-at-requires (claims t) (at t) write.Post Inv-loop μ-loop
   depth-at-requires c κs =
-      let i = c .before .before in
+      let i = c .before .before .before .before in
       let y = symbols (i .before) in
       let r = searched y in
       let p = asked r .pre .1 in
@@ -182,7 +182,7 @@ module _ (t : ℕ) where
   write-requires : lts.Need-write-requires (claims t) (at t) write.Post Inv-loop μ-loop
   write-requires c κs =
       let o = c .before .before in
-      let i = o .before .before in
+      let i = o .before .before .before .before in
       let l = i .before in
       let r = searched (symbols l) in
       let p = asked r .pre in
@@ -192,14 +192,14 @@ module _ (t : ℕ) where
       (omega (arith, e, x .1, p .0), (p .1 .0, rw e (x .0), category-room _ _ _ _ _ _ _ _ _ _ (shows (symbols l)) (asked (searched (symbols l)) .pre .1 .2) _ _ (n .put-node .ensures .0) (rw (n .before .rule-node .ensures) at (n .put-node .ensures .1)) _ _ _ _ _ (i .loop-test .taken) (next i) (l .loop .inv) (o .if1 .left)))
 
   add-d : lts.Need-add-d (claims t) (at t) write.Post Inv-loop μ-loop
-  add-d c = omega (arith, few (c .before .before))
+  add-d c = omega (arith, few (c .before .before .before .before))
 
   loop-less : lts.Need-loop-less (claims t) (at t) write.Post Inv-loop μ-loop
-  loop-less c = omega (arith, c .before .before .loop-test .taken)
+  loop-less c = omega (arith, c .before .before .before .before .loop-test .taken)
 
   loop-again : lts.Need-loop-again (claims t) (at t) write.Post Inv-loop μ-loop
   loop-again c =
-      let i = c .before .before in
+      let i = c .before .before .before .before in
       let l = i .before in
       let n = l .before .before .before in
       let k = i .loop-test .taken in
@@ -231,10 +231,10 @@ pub +write-spec : {M : Type 1} → statement M
     (loop-holds t)
     (shared-slice-read-symbol t)
     (mul-m t)
-    (array-read-m t)
+    (element-copy-out-m t)
     (add-e t)
     (mul-e t)
-    (array-read-e t)
+    (element-copy-out-e t)
     (token-node-requires t)
     (put-node-requires-2 t)
     (cast-b t)
