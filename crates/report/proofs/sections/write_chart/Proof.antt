@@ -10,7 +10,7 @@ use Rattle.derivation.specs.FactCount.{factCount}
 use Rattle.grammar.specs.Given.{grammarGiven}
 use Rattle.chart.specs.declared.ChartAnswer.the-variants as chart
 use Rattle.lines.specs.Lines.{roundsAndFacts}
-use Rattle.lines.proofs.WriteLaws.{stored-long, stored-then}
+use Rattle.lines.proofs.WriteLaws.{stored-then}
 use Rattle.lines.proofs.LineLaws.{rounds-few}
 use Rattle.report.specs.Printed.{roundsLine}
 use Rattle.chart.proofs.CheckLaws.{checked-accepted, memory-is}
@@ -66,10 +66,8 @@ few c = rounds-few _ _ (omega arith) (omega arith)
 write-facts-requires : tie.Need-write-facts-requires
 write-facts-requires c κs =
     let w = written c in
-    let start = entry (filled w) in
-    let size = memory-is (checked-accepted _ _ _ _ _ _ (start .pre .0)) .1 in
-    let long = stored-long (omega (arith, few w, start .pre .1)) (w .write-rounds .ensures) in
-    (omega arith, omega (arith, size), omega (arith, size), omega (arith, few w, long, w .write-rounds .ensures .after, size, start .pre .1))
+    let size = memory-is (checked-accepted _ _ _ _ _ _ (entry (filled w) .pre .0)) .1 in
+    (omega arith, omega (arith, size), omega (arith, size), omega (arith, few w, size))
 
 never : {rounds facts : ℕ} {refusal : Refusal} → chart.Filled rounds facts ≡ chart.Refused refusal → ⊥
 never e = let z : _≡_ {A = ℕ} 0 1 = cc in omega arith
@@ -94,10 +92,9 @@ returns-2 c =
     let answer = sym (ready .0) ∙ told .1 in
     let e₁ : roundsOf (grammarGiven (start .args .g .now)) (start .args .line .now) ≡ told .0 .0 = cc in
     let e₂ : factCount (grammarGiven (start .args .g .now)) (start .args .line .now) ≡ told .0 .1 .0 = cc in
-    let rounds = w .write-rounds .ensures in
     let facts = c .before .before .write-facts .ensures in
     let lines = rw (ready-categories p) at (facts-listed _ _ (ready-proper p) (ready .1)) in
-    rw (e₁, e₂, sym lines) (stored-then (omega (arith, few w, rounds .after, facts .0 .after, facts .1, memory-is p .1, start .pre .1)) rounds (facts .0))
+    rw (e₁, e₂, sym lines) (stored-then (omega (arith, few w, memory-is p .1)) (w .write-rounds .ensures) (facts .0))
 
 pub write-chart-spec : {M : Type 1} → statement M
 write-chart-spec =

@@ -1,14 +1,14 @@
 -- `report::sections::write_tree` meets its contract: the question's line, and then its nodes or the refusal.
 use borrow.Author.Needs.{needs}
 use native.Mathlib.Omega.{arith}
-use Prim.Native.Nat.{ℕ, _≤_}
+use Prim.Native.Nat.{_≤_}
 use mathlib.Core.Path.{sym}
 use mathlib.Core.List.{[], _∷_, _++_, append-nil, flatten}
-use lib.ListN.{length, length-replicate}
+use lib.ListN.{length}
 use denote.Ref.{now}
 use Rattle.lines.specs.Decimal.{decimal}
 use Rattle.lines.specs.Lines.{text, spaced, lineOf, numbered}
-use Rattle.lines.proofs.WriteLaws.{stored-long, stored-then}
+use Rattle.lines.proofs.WriteLaws.{stored-then}
 use Rattle.lines.proofs.LineLaws.{three-few}
 use Rattle.report.specs.Printed.{lentWords, lentDepths, lentTree, treeLines}
 use Rattle.report.proofs.NodeLaws.{nodes-printed}
@@ -51,10 +51,7 @@ enum-known-refusal : tie.Need-enum-known-refusal
 enum-known-refusal c = search needs
 
 refused-line-requires : tie.Need-refused-line-requires
-refused-line-requires c κs =
-    let w = written (c .before .before .before .before .before .before .before) in
-    let long = stored-long (omega (arith, few (w .before))) (w .write-line .ensures) in
-    omega (arith, few (w .before), long, w .write-line .ensures .after)
+refused-line-requires c κs = let asked = c .before .before .before .before .before .before .before in omega (arith, few (written asked .before))
 
 enum-known-count : tie.Need-enum-known-count
 enum-known-count c = search needs
@@ -65,10 +62,8 @@ slice-aggregate-write-nodes c = search needs
 write-nodes-requires : tie.Need-write-nodes-requires
 write-nodes-requires c κs =
     let asked = c .before .before .before .before .before .before .before .before in
-    let w = written asked in
-    let long = stored-long (omega (arith, few (w .before))) (w .write-line .ensures) in
     let shows = tree-shown _ _ _ _ _ _ _ _ (rw (c .before .before .before .count .given .1) at (asked .tree .ensures)) in
-    (omega (arith, shows .room, shows .long), omega (arith, few (w .before), long, w .write-line .ensures .after, shows .room, length-replicate {A = ℕ} 4096 0))
+    (omega (arith, shows .room), omega (arith, few (written asked .before), shows .room))
 
 same-length : tie.Need-same-length
 same-length c = search needs
@@ -81,7 +76,7 @@ returns c =
     let w = written asked in
     let line = c .before .before .refused-line .ensures in
     let refused = tree-refused _ _ _ _ _ _ _ _ (rw (told .refusal .given .1) at (asked .tree .ensures)) in
-    rw (refused, append-nil) (stored-then (omega (arith, few (w .before), w .write-line .ensures .after, line .0 .after, line .1)) (w .write-line .ensures) (line .0))
+    rw (refused, append-nil) (stored-then (omega (arith, few (w .before))) (w .write-line .ensures) (line .0))
 
 same-length-2 : tie.Need-same-length-2
 same-length-2 c = search needs
@@ -94,7 +89,7 @@ returns-2 c =
     let w = written asked in
     let nodes = c .before .before .write-nodes .ensures in
     let shows = tree-shown _ _ _ _ _ _ _ _ (rw (told .count .given .1) at (asked .tree .ensures)) in
-    rw (shows .passed, sym (nodes-printed _ _ (shows .nodes) (shows .begins))) (stored-then (omega (arith, few (w .before), w .write-line .ensures .after, nodes .0 .after, nodes .1, shows .room, length-replicate {A = ℕ} 4096 0)) (w .write-line .ensures) (nodes .0))
+    rw (shows .passed, sym (nodes-printed _ _ (shows .nodes) (shows .begins))) (stored-then (omega (arith, few (w .before), shows .room)) (w .write-line .ensures) (nodes .0))
 
 pub write-tree-spec : {M : Type 1} → statement M
 write-tree-spec =
