@@ -93,10 +93,10 @@ deep-room c = let h = origin c .pre .3 in le-trans h (le-of-eq (sym (ap length (
 commit-requires : tie.Need-commit-requires Inv-loop μ-loop
 commit-requires c κs =
     let l = turn c .before .loop in
-    let i = turn c .before .before in
-    let p = origin i .pre in (
-      round-ready (given i) (l .depth) (l .changed) _ _ (l .words) (l .next) (l .depths) _ _ _ (l .inv .1) (i .before .before .rule-masks .ensures) (i .before .class-places .ensures)
-          (c .before .before .before .apply-rules .ensures) _ (category-count _ _ (p .0)) (room i) (deep-room i),
+    let begun = turn c .before .before in
+    let p = origin begun .pre in (
+      round-ready (given begun) (l .depth) (l .changed) _ _ (l .words) (l .next) (l .depths) _ _ _ (l .inv .1) (begun .before .before .rule-masks .ensures) (begun .before .class-places .ensures)
+          (c .before .before .before .apply-rules .ensures) _ (category-count _ _ (p .0)) (room begun) (deep-room begun),
       whole _ _ (p .0) .categories-high,
       omega (arith, p .1 .short),
     )
@@ -107,12 +107,12 @@ loop-less c = let ready = c .before .before .before .before .before in omega (ar
 loop-again : tie.Need-loop-again Inv-loop μ-loop
 loop-again c =
     let done = c .before .before .before .before in
-    let t = turn (done .before) in
-    let l = t .before .loop in
-    let i = t .before .before in (
-      omega (arith, few t),
-      round-done (given i) (l .depth) (l .changed) _ _ (l .words) (l .next) (l .depths) _ _ _ (l .inv .1) (i .before .before .rule-masks .ensures) (i .before .class-places .ensures)
-          (done .before .before .before .before .apply-rules .ensures) _ _ _ _ (category-count _ _ (origin i .pre .0)) (some t) (done .commit .ensures),
+    let ready = done .before in
+    let l = turn ready .before .loop in
+    let begun = turn ready .before .before in (
+      omega (arith, few (turn ready)),
+      round-done (given begun) (l .depth) (l .changed) _ _ (l .words) (l .next) (l .depths) _ _ _ (l .inv .1) (begun .before .before .rule-masks .ensures) (begun .before .class-places .ensures)
+          (ready .before .before .before .apply-rules .ensures) _ _ _ _ (category-count _ _ (origin begun .pre .0)) (some (turn ready)) (done .commit .ensures),
     )
 
 cast-result : tie.Need-cast-result Inv-loop μ-loop
@@ -130,10 +130,10 @@ same-length-2 c = search needs
 returns : tie.Need-returns Inv-loop μ-loop
 returns c =
     let l = c .before .loop in
-    let i = c .before .before in
-    let p = origin i .pre in
-    filled-cleared _ _ (i .insert .result) _ _ _ _ _ (category-count _ _ (p .0)) (i .insert .ensures) (cleared i .clear-words .ensures) (deep i .clear-depths .ensures) _ _ (p .2) (p .3)
-    (rounds-filled (given i) (l .depth) (l .changed) _ _ (l .words) (l .next) (l .depths) (c .loop-test .left) (l .inv .1))
+    let begun = c .before .before in
+    let p = origin begun .pre in
+    filled-cleared _ _ (begun .insert .result) _ _ _ _ _ (category-count _ _ (p .0)) (begun .insert .ensures) (cleared begun .clear-words .ensures) (deep begun .clear-depths .ensures) _ _ (p .2) (p .3)
+    (rounds-filled (given begun) (l .depth) (l .changed) _ _ (l .words) (l .next) (l .depths) (c .loop-test .left) (l .inv .1))
 
 pub fill-spec : {M : Type 1} → statement M
 fill-spec =
