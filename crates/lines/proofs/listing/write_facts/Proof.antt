@@ -48,16 +48,16 @@ rem-write-fact-2 c = search needs
 
 write-fact-requires : tie.Need-write-fact-requires Inv-loop μ-loop
 write-fact-requires c κs =
-    let l = c .before .before .before in
-    let start = l .before .before .before in
-    let q = l .loop .q in
+    let here = c .before .before .before in
+    let start = here .before .before .before in
+    let q = here .loop .q in
     let w = start .args .width in
     let row = div-le-self q w in (
       omega (arith, row, div-le-self (q / w) w),
       omega (arith, row, mod-le (q / w) w),
       omega (arith, mod-le q w),
       omega (arith, c .before .shared-slice-known2 .given q),
-      gather-room 29 _ (factLineAt (start .args .depths .now) w) (few (l .before)) (start .pre .3) (l .loop .inv .1) (c .before .before .loop-test .taken),
+      gather-room 29 _ (factLineAt (start .args .depths .now) w) (few (here .before)) (start .pre .3) (here .loop .inv .1) (c .before .before .loop-test .taken),
     )
 
 add-q : tie.Need-add-q Inv-loop μ-loop
@@ -68,22 +68,22 @@ loop-less c = search needs
 
 loop-again : tie.Need-loop-again Inv-loop μ-loop
 loop-again c =
-    let l = c .before .before .before .before .before .before in
-    let start = l .before .before .before in
-    (omega arith, gather-more 29 _ (factLineAt (start .args .depths .now) (start .args .width)) (few (l .before)) (start .pre .3) (l .loop .inv .1) (omega arith) (c .before .before .write-fact .ensures))
+    let here = c .before .before .before .before .before .before in
+    let start = here .before .before .before in
+    (omega arith, gather-more 29 _ (factLineAt (start .args .depths .now) (start .args .width)) (few (here .before)) (start .pre .3) (here .loop .inv .1) (omega arith) (c .before .before .write-fact .ensures))
 
 same-length : tie.Need-same-length Inv-loop μ-loop
 same-length c =
-    let l = c .before in
-    let start = l .before .before .before in
-    gather-long 29 _ (factLineAt (start .args .depths .now) (start .args .width)) (few (l .before)) (start .pre .3) (l .loop .inv .1) (l .loop .inv .0)
+    let here = c .before in
+    let start = here .before .before .before in
+    gather-long 29 _ (factLineAt (start .args .depths .now) (start .args .width)) (few (here .before)) (start .pre .3) (here .loop .inv .1) (here .loop .inv .0)
 
 returns : tie.Need-returns Inv-loop μ-loop
 returns c =
-    let l = c .before in
-    let start = l .before .before .before in
-    let e : l .loop .q ≡ start .args .numbers = omega arith in
-    rw (sym e) (l .loop .inv .1, gather-few 29 _ (factLineAt (start .args .depths .now) (start .args .width)) (few (l .before)) (start .pre .3) (l .loop .inv .1) (l .loop .inv .0))
+    let here = c .before in
+    let start = here .before .before .before in
+    let e : here .loop .q ≡ start .args .numbers = omega arith in
+    rw (sym e) (here .loop .inv .1, gather-few 29 _ (factLineAt (start .args .depths .now) (start .args .width)) (few (here .before)) (start .pre .3) (here .loop .inv .1) (here .loop .inv .0))
 
 pub write-facts-spec : {M : Type 1} → statement M
 write-facts-spec =

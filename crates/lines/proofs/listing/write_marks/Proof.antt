@@ -37,9 +37,9 @@ same-length c = search needs
 returns : tie.Need-returns
 unfolding text
 returns c =
-    let w = c .before .before .before .before .before .before .before in
-    let e : entry w .args .n ≡ 0 = omega arith in
-    rw (e, sym marks-none) (stored-then (omega arith) (w .write-bytes .ensures) (c .before .before .write-byte .ensures))
+    let begun = c .before .before .before .before .before .before .before in
+    let e : entry begun .args .n ≡ 0 = omega arith in
+    rw (e, sym marks-none) (stored-then (omega arith) (begun .write-bytes .ensures) (c .before .before .write-byte .ensures))
 
 write-byte-requires-2 : tie.Need-write-byte-requires-2
 write-byte-requires-2 c κs = search needs
@@ -57,14 +57,14 @@ returns-2 : tie.Need-returns-2
 unfolding text
 returns-2 c =
     let digits = c .before .before .before .before .before .before in
-    let w = word (space digits) in
-    let a = entry w .args in
-    let count = digits-long (a .marks .now) (a .n) (entry w .pre .0) in
-    let some = length-take-le (a .n) (a .marks .now) (entry w .pre .0) in
+    let begun = word (space digits) in
+    let a = entry begun .args in
+    let count = digits-long (a .marks .now) (a .n) (entry begun .pre .0) in
+    let some = length-take-le (a .n) (a .marks .now) (entry begun .pre .0) in
     let last = stored-then (omega (arith, count)) (digits .write-digits .ensures) (c .before .before .write-byte3 .ensures) in
     let all = length-append (map digitCode (take (a .n) (a .marks .now))) (10 ∷ []) in
     let rest = stored-then (omega (arith, count, all)) (space digits .write-byte2 .ensures) last in
-    rw (sym (marks-parts (take (a .n) (a .marks .now)) (omega arith))) (stored-then (omega (arith, count, all)) (w .write-bytes .ensures) rest)
+    rw (sym (marks-parts (take (a .n) (a .marks .now)) (omega arith))) (stored-then (omega (arith, count, all)) (begun .write-bytes .ensures) rest)
 
 pub write-marks-spec : {M : Type 1} → statement M
 write-marks-spec =

@@ -74,10 +74,10 @@ slice-aggregate-write-line-2 c = search needs
 write-line-requires : tie.Need-write-line-requires Inv-loop μ-loop
 unfolding numbered lineOf text
 write-line-requires c κs =
-    let l = turn (c .before .before .before) in
-    let start = l .before .before .before in
-    let room = gather-room 21 _ (nodeLineAt (start .args .nodes .now)) (few (l .before)) (start .pre .1) (l .loop .inv .1) (omega arith) in
-    (omega arith, omega (arith, few (l .before) (l .loop .k) (omega arith), room))
+    let here = turn (c .before .before .before) in
+    let start = here .before .before .before in
+    let room = gather-room 21 _ (nodeLineAt (start .args .nodes .now)) (few (here .before)) (start .pre .1) (here .loop .inv .1) (omega arith) in
+    (omega arith, omega (arith, few (here .before) (here .loop .k) (omega arith), room))
 
 add-k : tie.Need-add-k Inv-loop μ-loop
 add-k c = search needs
@@ -88,22 +88,22 @@ loop-less c = search needs
 loop-again : tie.Need-loop-again Inv-loop μ-loop
 unfolding numbered lineOf text
 loop-again c =
-    let l = turn (c .before .before .before .before .before .before) in
-    let start = l .before .before .before in
-    (omega arith, gather-more 21 _ (nodeLineAt (start .args .nodes .now)) (few (l .before)) (start .pre .1) (l .loop .inv .1) (omega arith) (c .before .before .write-line .ensures))
+    let here = turn (c .before .before .before .before .before .before) in
+    let start = here .before .before .before in
+    (omega arith, gather-more 21 _ (nodeLineAt (start .args .nodes .now)) (few (here .before)) (start .pre .1) (here .loop .inv .1) (omega arith) (c .before .before .write-line .ensures))
 
 same-length : tie.Need-same-length Inv-loop μ-loop
 same-length c =
-    let l = c .before in
-    let start = l .before .before .before in
-    gather-long 21 _ (nodeLineAt (start .args .nodes .now)) (few (l .before)) (start .pre .1) (l .loop .inv .1) (l .loop .inv .0)
+    let here = c .before in
+    let start = here .before .before .before in
+    gather-long 21 _ (nodeLineAt (start .args .nodes .now)) (few (here .before)) (start .pre .1) (here .loop .inv .1) (here .loop .inv .0)
 
 returns : tie.Need-returns Inv-loop μ-loop
 returns c =
-    let l = c .before in
-    let start = l .before .before .before in
-    let e : l .loop .k ≡ start .args .count = omega arith in
-    rw (sym e) (l .loop .inv .1, gather-few 21 _ (nodeLineAt (start .args .nodes .now)) (few (l .before)) (start .pre .1) (l .loop .inv .1) (l .loop .inv .0))
+    let here = c .before in
+    let start = here .before .before .before in
+    let e : here .loop .k ≡ start .args .count = omega arith in
+    rw (sym e) (here .loop .inv .1, gather-few 21 _ (nodeLineAt (start .args .nodes .now)) (few (here .before)) (start .pre .1) (here .loop .inv .1) (here .loop .inv .0))
 
 pub write-nodes-spec : {M : Type 1} → statement M
 write-nodes-spec =

@@ -24,10 +24,10 @@ write-bytes-requires : tie.Need-write-bytes-requires
 write-bytes-requires c κs = omega (arith, room c)
 
 write-numbers-requires : tie.Need-write-numbers-requires
-write-numbers-requires c κs = let w = c .before .before .before .before in (entry w .pre .0, omega (arith, room w))
+write-numbers-requires c κs = let begun = c .before .before .before .before in (entry begun .pre .0, omega (arith, room begun))
 
 write-byte-requires : tie.Need-write-byte-requires
-write-byte-requires c κs = let w = c .before .before .before .before .before .before .before .before in omega (arith, room w)
+write-byte-requires c κs = let begun = c .before .before .before .before .before .before .before .before in omega (arith, room begun)
 
 same-length : tie.Need-same-length
 same-length c = search needs

@@ -36,7 +36,7 @@ loop-holds : tie.Need-loop-holds Inv-loop μ-loop
 loop-holds c = (omega arith, begin (c .before .before .args .numbers .now))
 
 write-byte-requires : tie.Need-write-byte-requires Inv-loop μ-loop
-write-byte-requires c κs = let l = c .before .before in omega (arith, long l, numbers-room (entry l .args .numbers .now) (l .loop .i) (c .before .loop-test .taken))
+write-byte-requires c κs = let here = c .before .before in omega (arith, long here, numbers-room (entry here .args .numbers .now) (here .loop .i) (c .before .loop-test .taken))
 
 mul-write-decimal : tie.Need-mul-write-decimal Inv-loop μ-loop
 mul-write-decimal c = search needs
@@ -45,7 +45,7 @@ shared-slice-read-write-decimal : tie.Need-shared-slice-read-write-decimal Inv-l
 shared-slice-read-write-decimal c = search needs
 
 write-decimal-requires : tie.Need-write-decimal-requires Inv-loop μ-loop
-write-decimal-requires c κs = let l = turn (c .before .before .before .before) in omega (arith, long l, numbers-room (entry l .args .numbers .now) (l .loop .i) (omega arith))
+write-decimal-requires c κs = let here = turn (c .before .before .before .before) in omega (arith, long here, numbers-room (entry here .args .numbers .now) (here .loop .i) (omega arith))
 
 add-i : tie.Need-add-i Inv-loop μ-loop
 add-i c = search needs
@@ -56,15 +56,15 @@ loop-less c = search needs
 loop-again : tie.Need-loop-again Inv-loop μ-loop
 loop-again c =
     let space = c .before .before .before .before .before .before .before in
-    let l = turn space in
-    let more = numbers-room (entry l .args .numbers .now) (l .loop .i) (omega arith) in
-    (omega arith, rw (numbers-more (entry l .args .numbers .now) (l .loop .i) (omega arith)) (stored-then (omega (arith, more)) (l .loop .inv .1) (stored-then (omega (arith, long l, more)) (space .write-byte .ensures) (c .before .before .write-decimal .ensures))))
+    let here = turn space in
+    let more = numbers-room (entry here .args .numbers .now) (here .loop .i) (omega arith) in
+    (omega arith, rw (numbers-more (entry here .args .numbers .now) (here .loop .i) (omega arith)) (stored-then (omega (arith, more)) (here .loop .inv .1) (stored-then (omega (arith, long here, more)) (space .write-byte .ensures) (c .before .before .write-decimal .ensures))))
 
 same-length : tie.Need-same-length Inv-loop μ-loop
 same-length c = long (c .before)
 
 returns : tie.Need-returns Inv-loop μ-loop
-returns c = let l = c .before in rw (take-all (l .loop .i) (entry l .args .numbers .now) (c .loop-test .left)) at (l .loop .inv .1)
+returns c = let here = c .before in rw (take-all (here .loop .i) (entry here .args .numbers .now) (c .loop-test .left)) at (here .loop .inv .1)
 
 pub write-numbers-spec : {M : Type 1} → statement M
 write-numbers-spec =

@@ -39,19 +39,19 @@ slice-aggregate-write-numbers : tie.Need-slice-aggregate-write-numbers
 slice-aggregate-write-numbers c = search needs
 
 write-numbers-requires : tie.Need-write-numbers-requires
-write-numbers-requires c κs = (omega arith, omega (arith, few (entry (c .before .before .before .before))))
+write-numbers-requires c κs = let begun = c .before .before .before .before in (omega arith, omega (arith, few (entry begun)))
 
 slice-aggregate-write-bytes-2 : tie.Need-slice-aggregate-write-bytes-2
 slice-aggregate-write-bytes-2 c = search needs
 
 write-bytes-requires-2 : tie.Need-write-bytes-requires-2
-write-bytes-requires-2 c κs = omega (arith, few (entry (word (c .before .before .before .before))))
+write-bytes-requires-2 c κs = let rounds = c .before .before .before .before in omega (arith, few (entry (word rounds)))
 
 slice-aggregate-write-numbers-2 : tie.Need-slice-aggregate-write-numbers-2
 slice-aggregate-write-numbers-2 c = search needs
 
 write-numbers-requires-2 : tie.Need-write-numbers-requires-2
-write-numbers-requires-2 c κs = (omega arith, omega (arith, few (entry (word (first (c .before .before .before .before))))))
+write-numbers-requires-2 c κs = let between = c .before .before .before .before in (omega arith, omega (arith, few (entry (word (first between)))))
 
 write-byte-requires : tie.Need-write-byte-requires
 write-byte-requires c κs = omega (arith, few (entry (word (first (other (c .before .before .before))))))
@@ -62,17 +62,17 @@ same-length c = search needs
 returns : tie.Need-returns
 unfolding text
 returns c =
-    let s = c .before .before .before .before .before .before in
-    let o = other s in
-    let n = first o in
-    let w = word n in
-    let a = entry w .args in
-    let sizes = few (entry w) in
+    let facts = c .before .before .before .before .before .before in
+    let between = other facts in
+    let rounds = first between in
+    let begun = word rounds in
+    let a = entry begun .args in
+    let sizes = few (entry begun) in
     let end = length-append (spaced (decimal (a .facts) ∷ [])) (10 ∷ []) in
-    let last = stored-then (omega (arith, sizes)) (s .write-numbers2 .ensures) (c .before .before .write-byte .ensures) in
-    let more = stored-then (omega (arith, sizes, end)) (n .write-numbers .ensures) (stored-then (omega (arith, sizes, end)) (o .write-bytes2 .ensures) last) in
+    let last = stored-then (omega (arith, sizes)) (facts .write-numbers2 .ensures) (c .before .before .write-byte .ensures) in
+    let more = stored-then (omega (arith, sizes, end)) (rounds .write-numbers .ensures) (stored-then (omega (arith, sizes, end)) (between .write-bytes2 .ensures) last) in
     let all = length-append (spaced (decimal (a .rounds) ∷ [])) (text " facts" ++ (spaced (decimal (a .facts) ∷ []) ++ (10 ∷ []))) in
-    rw (sym (rounds-parts (a .rounds) (a .facts))) (stored-then (omega (arith, sizes, all, end)) (w .write-bytes .ensures) more)
+    rw (sym (rounds-parts (a .rounds) (a .facts))) (stored-then (omega (arith, sizes, all, end)) (begun .write-bytes .ensures) more)
 
 pub write-rounds-spec : {M : Type 1} → statement M
 write-rounds-spec =
