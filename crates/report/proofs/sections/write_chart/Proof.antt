@@ -65,17 +65,17 @@ few c = rounds-few _ _ (omega arith) (omega arith)
 
 write-facts-requires : tie.Need-write-facts-requires
 write-facts-requires c κs =
-    let w = written c in
-    let size = memory-is (checked-accepted _ _ _ _ _ _ (entry (filled w) .pre .0)) .1 in
-    (omega arith, omega (arith, size), omega (arith, size), omega (arith, few w, size))
+    let line = written c in
+    let size = memory-is (checked-accepted _ _ _ _ _ _ (entry (filled line) .pre .0)) .1 in
+    (omega arith, omega (arith, size), omega (arith, size), omega (arith, few line, size))
 
 never : {rounds facts : ℕ} {refusal : Refusal} → chart.Filled rounds facts ≡ chart.Refused refusal → ⊥
 never e = let z : _≡_ {A = ℕ} 0 1 = cc in omega arith
 
 returns : tie.Need-returns
 returns c =
-    let f = c .before .before .before .before in
-    let ready = chart-ready (checked-accepted _ _ _ _ _ _ (entry f .pre .0)) (length-replicate {A = ℕ} 512 0) (length-replicate {A = ℕ} 16384 0) (f .chart .ensures) in
+    let charted = c .before .before .before .before in
+    let ready = chart-ready (checked-accepted _ _ _ _ _ _ (entry charted .pre .0)) (length-replicate {A = ℕ} 512 0) (length-replicate {A = ℕ} 16384 0) (charted .chart .ensures) in
     absurd (never (sym (ready .0) ∙ c .enum-told .given .1))
 
 same-length : tie.Need-same-length
@@ -84,17 +84,17 @@ same-length c = search needs
 returns-2 : tie.Need-returns-2
 unfolding roundsLine
 returns-2 c =
-    let w = written (c .before .before .before) in
-    let start = entry (filled w) in
+    let line = written (c .before .before .before) in
+    let start = entry (filled line) in
     let p = checked-accepted _ _ _ _ _ _ (start .pre .0) in
-    let ready = chart-ready p (length-replicate {A = ℕ} 512 0) (length-replicate {A = ℕ} 16384 0) (filled w .chart .ensures) in
-    let told = w .before .before .before .rounds .given in
+    let ready = chart-ready p (length-replicate {A = ℕ} 512 0) (length-replicate {A = ℕ} 16384 0) (filled line .chart .ensures) in
+    let told = line .before .before .before .rounds .given in
     let answer = sym (ready .0) ∙ told .1 in
     let e₁ : roundsOf (grammarGiven (start .args .g .now)) (start .args .line .now) ≡ told .0 .0 = cc in
     let e₂ : factCount (grammarGiven (start .args .g .now)) (start .args .line .now) ≡ told .0 .1 .0 = cc in
     let facts = c .before .before .write-facts .ensures in
     let lines = rw (ready-categories p) at (facts-listed _ _ (ready-proper p) (ready .1)) in
-    rw (e₁, e₂, sym lines) (stored-then (omega (arith, few w, memory-is p .1)) (w .write-rounds .ensures) (facts .0))
+    rw (e₁, e₂, sym lines) (stored-then (omega (arith, few line, memory-is p .1)) (line .write-rounds .ensures) (facts .0))
 
 pub write-chart-spec : {M : Type 1} → statement M
 write-chart-spec =

@@ -73,10 +73,10 @@ unfolding treeLines flatten lentWords lentDepths lentTree numbered lineOf text
 returns c =
     let told = c .before .before .before .before .before in
     let asked = told .before .before .before .before .before in
-    let w = written asked in
-    let line = c .before .before .refused-line .ensures in
+    let line = written asked in
+    let refusal = c .before .before .refused-line .ensures in
     let refused = tree-refused _ _ _ _ _ _ _ _ (rw (told .refusal .given .1) at (asked .tree .ensures)) in
-    rw (refused, append-nil) (stored-then (omega (arith, few (w .before))) (w .write-line .ensures) (line .0))
+    rw (refused, append-nil) (stored-then (omega (arith, few (line .before))) (line .write-line .ensures) (refusal .0))
 
 same-length-2 : tie.Need-same-length-2
 same-length-2 c = search needs
@@ -86,10 +86,10 @@ unfolding treeLines flatten lentWords lentDepths lentTree numbered lineOf text
 returns-2 c =
     let told = c .before .before .before .before .before .before in
     let asked = told .before .before .before .before .before in
-    let w = written asked in
+    let line = written asked in
     let nodes = c .before .before .write-nodes .ensures in
     let shows = tree-shown _ _ _ _ _ _ _ _ (rw (told .count .given .1) at (asked .tree .ensures)) in
-    rw (shows .passed, sym (nodes-printed _ _ (shows .nodes) (shows .begins))) (stored-then (omega (arith, few (w .before), shows .room)) (w .write-line .ensures) (nodes .0))
+    rw (shows .passed, sym (nodes-printed _ _ (shows .nodes) (shows .begins))) (stored-then (omega (arith, few (line .before), shows .room)) (line .write-line .ensures) (nodes .0))
 
 pub write-tree-spec : {M : Type 1} → statement M
 write-tree-spec =
