@@ -28,7 +28,7 @@ returns : tie.Need-returns
 returns c =
     let matched = c .before .before .before in
     let asked = matched .before .before .before .before .before .before in
-    hands-refusal (asked .chart .result) (asked .chart .ensures) (matched .refusal .given .0 .0) (ap chartTold (matched .refusal .given .1)) (c .refuse .ensures)
+    hands-refusal _ (asked .chart .ensures) (matched .refusal .given .0 .0) (ap chartTold (matched .refusal .given .1)) (c .refuse .ensures)
 
 same-length-3 : tie.Need-same-length-3
 same-length-3 c = search needs
@@ -40,7 +40,7 @@ returns-2 : tie.Need-returns-2
 returns-2 c =
     let matched = c .before in
     let asked = matched .before .before .before .before .before .before in
-    hands-values (asked .chart .result) (asked .chart .ensures) _ (ap chartTold (matched .r .given .1))
+    hands-values _ (asked .chart .ensures) _ (ap chartTold (matched .r .given .1))
 
 pub berylskip-chart-nonnull-spec : {M : Type 1} → statement M
 berylskip-chart-nonnull-spec =

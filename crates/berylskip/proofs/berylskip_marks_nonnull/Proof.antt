@@ -31,7 +31,7 @@ returns : tie.Need-returns
 returns c =
     let matched = c .before .before .before in
     let asked = matched .before .before .before .before .before .before .before .before in
-    hands-refusal (asked .marks .result) (asked .marks .ensures) (matched .refusal .given .0 .0) (ap marksTold (matched .refusal .given .1)) (c .refuse .ensures)
+    hands-refusal _ (asked .marks .ensures) (matched .refusal .given .0 .0) (ap marksTold (matched .refusal .given .1)) (c .refuse .ensures)
 
 same-length-4 : tie.Need-same-length-4
 same-length-4 c = search needs
@@ -46,7 +46,7 @@ returns-2 : tie.Need-returns-2
 returns-2 c =
     let matched = c .before in
     let asked = matched .before .before .before .before .before .before .before .before in
-    hands-values (asked .marks .result) (asked .marks .ensures) _ (ap marksTold (matched .s .given .1))
+    hands-values _ (asked .marks .ensures) _ (ap marksTold (matched .s .given .1))
 
 pub berylskip-marks-nonnull-spec : {M : Type 1} → statement M
 berylskip-marks-nonnull-spec =

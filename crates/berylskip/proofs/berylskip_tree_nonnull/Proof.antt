@@ -31,7 +31,7 @@ returns : tie.Need-returns
 returns c =
     let matched = c .before .before .before in
     let asked = matched .before .before .before .before .before .before .before .before in
-    hands-refusal (asked .tree .result) (asked .tree .ensures) (matched .refusal .given .0 .0) (ap treeTold (matched .refusal .given .1)) (c .refuse .ensures)
+    hands-refusal _ (asked .tree .ensures) (matched .refusal .given .0 .0) (ap treeTold (matched .refusal .given .1)) (c .refuse .ensures)
 
 same-length-4 : tie.Need-same-length-4
 same-length-4 c = search needs
@@ -46,7 +46,7 @@ returns-2 : tie.Need-returns-2
 returns-2 c =
     let matched = c .before in
     let asked = matched .before .before .before .before .before .before .before .before in
-    hands-values (asked .tree .result) (asked .tree .ensures) _ (ap treeTold (matched .count .given .1))
+    hands-values _ (asked .tree .ensures) _ (ap treeTold (matched .count .given .1))
 
 pub berylskip-tree-nonnull-spec : {M : Type 1} → statement M
 berylskip-tree-nonnull-spec =

@@ -29,7 +29,7 @@ enum-told-2 c = search needs
 check-work-requires : tie.Need-check-work-requires
 check-work-requires c κs =
     let passed = c .before .before .before in
-    (c .before .before .before .before .before .before .before .pre, line-passed _ _ .0 (sym (passed .before .before .check-line .ensures) ∙ passed .enum-told .given .1) .short)
+    (search needs, line-passed _ _ .0 (sym (passed .before .before .check-line .ensures) ∙ passed .enum-told .given .1) .short)
 
 returns-2 : tie.Need-returns-2
 returns-2 c =

@@ -38,18 +38,18 @@ loop-less c = search needs
 
 loop-again : tie.Need-loop-again Inv-loop μ-loop
 loop-again c =
-    let a = c .before .before .before .before .before .args in
-    let l = c .before .before .before .loop in
-    let b = c .before .member in (
+    let turn = c .before .before .before in
+    let a = turn .before .before .args in
+    let l = turn .loop in (
       search needs,
       search needs,
       ⊎-elim
           (λ p. rw (p .2)
           (union-more (a .set) (now (a .rows)) (a .base) (a .from) (l .m) (l .all) (l .inv .0) (l .inv .2)
-          (member-true (a .set) (l .m) (b .ensures) (p .0 .taken))))
+          (member-true (a .set) (l .m) (c .before .member .ensures) (p .0 .taken))))
           (λ p. rw (p .1)
           (union-skip (a .set) (now (a .rows)) (a .base) (a .from) (l .m) (l .all) (l .inv .2)
-          (member-false (a .set) (l .m) (b .ensures) (p .0 .left))))
+          (member-false (a .set) (l .m) (c .before .member .ensures) (p .0 .left))))
           (c .if1 .came),
     )
 

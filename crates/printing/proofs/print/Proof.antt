@@ -22,7 +22,7 @@ loop-holds : tie.Need-loop-holds Inv-loop μ-loop
 loop-holds c = (pieces-some (c .before .before .args .input .now), refl)
 
 write-piece-requires : tie.Need-write-piece-requires Inv-loop μ-loop
-write-piece-requires c κs = omega (arith, c .before .loop .inv .1, c .before .before .before .before .pre)
+write-piece-requires c κs = omega arith
 
 slice-reshare-prefix-write-all : tie.Need-slice-reshare-prefix-write-all Inv-loop μ-loop
 slice-reshare-prefix-write-all c = yielded-within (c .before .before .write-piece .ensures)
@@ -34,24 +34,24 @@ write-all-requires : tie.Need-write-all-requires Inv-loop μ-loop
 write-all-requires c κs = search needs
 
 same-length : tie.Need-same-length Inv-loop μ-loop
-same-length c = omega (arith, c .before .before .before .before .out .given, c .before .before .before .before .before .before .before .loop .inv .1)
+same-length c = omega arith
 
 returns : tie.Need-returns Inv-loop μ-loop
 returns c = search needs
 
 add-number : tie.Need-add-number Inv-loop μ-loop
-add-number c = omega (arith, c .before .before .before .before .before .before .before .before .loop .inv .0, pieces-few (c .before .before .before .before .before .before .before .before .before .before .before .args .input .now))
+add-number c = let start = c .before .before .before .before .before .before .before .before .before .before .before in omega (arith, pieces-few (start .args .input .now))
 
 loop-less : tie.Need-loop-less Inv-loop μ-loop
-loop-less c = omega (arith, c .before .before .before .before .before .before .before .before .loop .inv .0)
+loop-less c = omega arith
 
 loop-again : tie.Need-loop-again Inv-loop μ-loop
 loop-again c =
-    let more = ltb-true _ _ (sym (c .before .before .before .before .before .before .write-piece .ensures .more) ∙ c .if2 .taken) in
-    (rw add-one more, omega (arith, c .before .before .before .before .before .out .given, c .before .before .before .before .before .before .before .before .loop .inv .1))
+    let written = c .before .before .before .before .before .before in
+    (rw add-one (ltb-true _ _ (sym (written .write-piece .ensures .more) ∙ c .if2 .taken)), omega arith)
 
 same-length-2 : tie.Need-same-length-2 Inv-loop μ-loop
-same-length-2 c = omega (arith, c .before .before .before .before .before .out .given, c .before .before .before .before .before .before .before .before .loop .inv .1)
+same-length-2 c = omega arith
 
 returns-2 : tie.Need-returns-2 Inv-loop μ-loop
 returns-2 c = search needs

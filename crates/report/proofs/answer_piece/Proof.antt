@@ -2,8 +2,6 @@
 use borrow.Author.Needs.{needs}
 use native.Mathlib.Omega.{arith}
 use mathlib.Core.Path.{_≡_}
-use Rattle.report.specs.Job.{questionsOf}
-use Rattle.report.specs.Printed.{answerPieces}
 use Rattle.report.proofs.PieceLaws.{piece-stored, piece-none, answers-more, first-answer, second-answer, later-answer, no-answer}
 use Rattle.report.proofs.answer_piece.Statement.{statement}
 use Rattle.report.proofs.answer_piece.Tie as tie
@@ -21,7 +19,7 @@ returns : tie.Need-returns
 returns c =
     let a = c .before .before .before .before .before .before .before .before .before .args in
     let e : a .number ≡ 0 = omega arith in
-    rw e (piece-stored (answerPieces (a .g .now) (a .line .now) (questionsOf (a .questions .now))) 0 _ (answers-more (a .g .now) (a .line .now) (a .questions .now) 0) _ (first-answer (a .g .now) (a .line .now) (a .questions .now)) (c .before .before .write-chart .ensures))
+    rw e (piece-stored _ 0 _ (answers-more (a .g .now) (a .line .now) (a .questions .now) 0) _ (first-answer _ _ _) (c .before .before .write-chart .ensures))
 
 write-marked-requires : tie.Need-write-marked-requires
 write-marked-requires c κs = search needs
@@ -33,7 +31,7 @@ returns-2 : tie.Need-returns-2
 returns-2 c =
     let a = c .before .before .before .before .before .before .before .before .before .before .args in
     let e : a .number ≡ 1 = omega arith in
-    rw e (piece-stored (answerPieces (a .g .now) (a .line .now) (questionsOf (a .questions .now))) 1 _ (answers-more (a .g .now) (a .line .now) (a .questions .now) 1) _ (second-answer (a .g .now) (a .line .now) (a .questions .now)) (c .before .before .write-marked .ensures))
+    rw e (piece-stored _ 1 _ (answers-more (a .g .now) (a .line .now) (a .questions .now) 1) _ (second-answer _ _ _) (c .before .before .write-marked .ensures))
 
 add-if3 : tie.Need-add-if3
 add-if3 c = search needs
@@ -41,7 +39,7 @@ add-if3 c = search needs
 returns-3 : tie.Need-returns-3
 returns-3 c =
     let a = c .before .before .before .before .before .before .before .args in
-    piece-none (answerPieces (a .g .now) (a .line .now) (questionsOf (a .questions .now))) (a .number) _ (answers-more (a .g .now) (a .line .now) (a .questions .now) (a .number)) (no-answer (a .g .now) (a .line .now) (a .questions .now) (a .number) (omega arith))
+    piece-none _ (a .number) _ (answers-more (a .g .now) (a .line .now) (a .questions .now) (a .number)) (no-answer _ _ _ (a .number) (omega arith))
 
 sub-at : tie.Need-sub-at
 sub-at c = search needs
@@ -73,7 +71,7 @@ same-length-3 c = search needs
 returns-4 : tie.Need-returns-4
 returns-4 c =
     let a = c .before .before .before .before .before .before .before .before .before .before .before .before .before .before .args in
-    piece-stored (answerPieces (a .g .now) (a .line .now) (questionsOf (a .questions .now))) (a .number) _ (answers-more (a .g .now) (a .line .now) (a .questions .now) (a .number)) _ (later-answer (a .g .now) (a .line .now) (a .questions .now) (a .number) (omega arith) (omega arith)) (c .before .before .write-tree .ensures)
+    piece-stored _ (a .number) _ (answers-more (a .g .now) (a .line .now) (a .questions .now) (a .number)) _ (later-answer _ _ _ (a .number) (omega arith) (omega arith)) (c .before .before .write-tree .ensures)
 
 pub answer-piece-spec : {M : Type 1} → statement M
 answer-piece-spec =

@@ -20,7 +20,7 @@ enum-known-s : tie.Need-enum-known-s
 enum-known-s c = search needs
 
 answer-piece-requires : tie.Need-answer-piece-requires
-answer-piece-requires c κs = (sym (c .before .before .before .before .checked .ensures) ∙ c .before .before .s .given .1, c .before .before .before .before .before .before .before .before .before .pre)
+answer-piece-requires c κs = let told = c .before .before in (sym (told .before .before .checked .ensures) ∙ told .s .given .1, search needs)
 
 same-length : tie.Need-same-length
 same-length c = search needs
@@ -28,8 +28,8 @@ same-length c = search needs
 returns : tie.Need-returns
 unfolding chartPieces
 returns c =
-    let refused = job-refused _ _ _ (sym (c .before .before .before .before .before .before .before .checked .ensures) ∙ c .before .before .before .before .before .refusal .given .1) in
-    rw refused (c .before .before .refused-piece .ensures)
+    let told = c .before .before .before .before .before in
+    rw (job-refused _ _ _ (sym (told .before .before .checked .ensures) ∙ told .refusal .given .1)) (c .before .before .refused-piece .ensures)
 
 same-length-2 : tie.Need-same-length-2
 same-length-2 c = search needs
@@ -37,8 +37,8 @@ same-length-2 c = search needs
 returns-2 : tie.Need-returns-2
 unfolding chartPieces
 returns-2 c =
-    let passes = checked-accepted _ _ _ _ _ _ (sym (c .before .before .before .before .before .before .before .checked .ensures) ∙ c .before .before .before .before .before .s .given .1) in
-    rw (job-passed passes) (c .before .before .answer-piece .ensures)
+    let told = c .before .before .before .before .before in
+    rw (job-passed (checked-accepted _ _ _ _ _ _ (sym (told .before .before .checked .ensures) ∙ told .s .given .1))) (c .before .before .answer-piece .ensures)
 
 pub job-piece-spec : {M : Type 1} → statement M
 job-piece-spec =

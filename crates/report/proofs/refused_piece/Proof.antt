@@ -25,8 +25,9 @@ same-length c = search needs
 
 returns-2 : tie.Need-returns-2
 returns-2 c =
-    let e : c .before .before .before .before .before .before .args .number ≡ 0 = omega arith in
-    rw e (piece-stored (refusedLine (c .before .before .before .before .before .before .args .refusal) ∷ []) 0 false refl (refusedLine (c .before .before .before .before .before .before .args .refusal)) refl (c .before .before .refused-line .ensures .0))
+    let a = c .before .before .before .before .before .before .args in
+    let e : a .number ≡ 0 = omega arith in
+    rw e (piece-stored (refusedLine (a .refusal) ∷ []) 0 false refl (refusedLine (a .refusal)) refl (c .before .before .refused-line .ensures .0))
 
 pub refused-piece-spec : {M : Type 1} → statement M
 refused-piece-spec = tie.close (tie.spec returns refused-line-requires same-length returns-2)

@@ -3,11 +3,22 @@ use borrow.Author.Needs.{needs}
 use native.Mathlib.Omega.{arith}
 use Prim.Native.Nat.{_+_, _-_}
 use mathlib.Core.Path.{_≡_, sym, _∙_}
+use denote.Ref.{now}
 use Rattle.report.specs.Printed.{pieces}
-use Rattle.report.proofs.JobLaws.{job-read}
+use Rattle.report.proofs.JobLaws.{JobRead, job-read}
 use Rattle.report.proofs.PieceLaws.{questions-read}
 use Rattle.report.proofs.write_piece.Statement.{statement}
 use Rattle.report.proofs.write_piece.Tie as tie
+
+-- the function's entry, and what was read, from where the job is told; and that, from where the grammar is handed on
+abbrev entry : tie.After-job → tie.Start
+entry c = c .before .before .before .before .before
+
+read : (c : tie.After-job) → JobRead (now (entry c .args .input)) (c .job .given .0 .0)
+read c = job-read _ _ (sym (c .before .before .read-job .ensures) ∙ c .job .given .1)
+
+abbrev told : tie.After-job-piece-arg → tie.After-job
+told c = c .before .before .before .before
 
 read-job-requires : tie.Need-read-job-requires
 read-job-requires c κs = search needs
@@ -22,19 +33,13 @@ enum-known-job : tie.Need-enum-known-job
 enum-known-job c = search needs
 
 add-line-at : tie.Need-add-line-at
-add-line-at c =
-    let read = job-read _ _ (sym (c .before .before .before .before .read-job .ensures) ∙ c .before .before .job .given .1) in
-    omega (arith, read .whole)
+add-line-at c = omega (arith, read (c .before .before) .whole)
 
 add-line-end : tie.Need-add-line-end
-add-line-end c =
-    let read = job-read _ _ (sym (c .before .before .before .before .before .read-job .ensures) ∙ c .before .before .before .job .given .1) in
-    omega (arith, read .whole)
+add-line-end c = omega (arith, read (c .before .before .before) .whole)
 
 add-questions-at : tie.Need-add-questions-at
-add-questions-at c =
-    let read = job-read _ _ (sym (c .before .before .before .before .before .read-job .ensures) ∙ c .before .before .before .job .given .1) in
-    omega (arith, read .whole)
+add-questions-at c = omega (arith, read (c .before .before .before) .whole)
 
 sub-grammar-end : tie.Need-sub-grammar-end
 sub-grammar-end c = search needs
@@ -46,9 +51,7 @@ part-job-piece-start : tie.Need-part-job-piece-start
 part-job-piece-start c = search needs
 
 part-job-piece-end : tie.Need-part-job-piece-end
-part-job-piece-end c =
-    let read = job-read _ _ (sym (c .before .before .before .before .before .read-job .ensures) ∙ c .before .before .before .job .given .1) in
-    omega (arith, read .whole)
+part-job-piece-end c = omega (arith, read (c .before .before .before) .whole)
 
 sub-job-piece-2 : tie.Need-sub-job-piece-2
 sub-job-piece-2 c = search needs
@@ -57,19 +60,13 @@ part-job-piece-start-2 : tie.Need-part-job-piece-start-2
 part-job-piece-start-2 c = search needs
 
 part-job-piece-end-2 : tie.Need-part-job-piece-end-2
-part-job-piece-end-2 c =
-    let read = job-read _ _ (sym (c .before .before .before .before .before .before .read-job .ensures) ∙ c .before .before .before .before .job .given .1) in
-    omega (arith, read .whole)
+part-job-piece-end-2 c = omega (arith, read (told c) .whole)
 
 sub-job-piece-3 : tie.Need-sub-job-piece-3
-sub-job-piece-3 c =
-    let read = job-read _ _ (sym (c .before .before .before .before .before .before .before .read-job .ensures) ∙ c .before .before .before .before .before .job .given .1) in
-    omega (arith, read .whole)
+sub-job-piece-3 c = omega (arith, read (told (c .before)) .whole)
 
 part-job-piece-start-3 : tie.Need-part-job-piece-start-3
-part-job-piece-start-3 c =
-    let read = job-read _ _ (sym (c .before .before .before .before .before .before .before .read-job .ensures) ∙ c .before .before .before .before .before .job .given .1) in
-    omega (arith, read .whole)
+part-job-piece-start-3 c = omega (arith, read (told (c .before)) .whole)
 
 part-job-piece-end-3 : tie.Need-part-job-piece-end-3
 part-job-piece-end-3 c = search needs
@@ -82,7 +79,9 @@ same-length c = search needs
 
 returns : tie.Need-returns
 unfolding pieces
-returns c = rw (sym (c .before .before .before .before .before .before .before .read-job .ensures) ∙ c .before .before .before .before .before .refusal .given .1) (c .before .before .refused-piece .ensures)
+returns c =
+    let refused = c .before .before .before .before .before in
+    rw (sym (refused .before .before .read-job .ensures) ∙ refused .refusal .given .1) (c .before .before .refused-piece .ensures)
 
 same-length-2 : tie.Need-same-length-2
 same-length-2 c = search needs
@@ -90,12 +89,12 @@ same-length-2 c = search needs
 returns-2 : tie.Need-returns-2
 unfolding pieces
 returns-2 c =
-    let read = job-read _ _ (sym (c .before .before .before .before .before .before .before .before .before .before .before .before .read-job .ensures) ∙ c .before .before .before .before .before .before .before .before .before .before .job .given .1) in
-    let job = c .before .before .before .before .before .before .before .before .before .before .job .given .0 .0 in
+    let asked = told (c .before .before .before .before .before .before) in
+    let job = asked .job .given .0 .0 in
     let e₁ : 3 + job .grammar - 1 - 2 ≡ job .grammar = omega arith in
     let e₂ : 3 + job .grammar + job .line - (3 + job .grammar) ≡ job .line = omega arith in
-    let asked = questions-read _ _ read (3 + job .grammar + job .line + 1) (omega arith) in
-    rw (sym (c .before .before .before .before .before .before .before .before .before .before .before .before .read-job .ensures) ∙ c .before .before .before .before .before .before .before .before .before .before .job .given .1) (rw (e₁, e₂, asked) at (c .before .before .job-piece .ensures))
+    let questions = questions-read _ _ (read asked) (3 + job .grammar + job .line + 1) (omega arith) in
+    rw (sym (asked .before .before .read-job .ensures) ∙ asked .job .given .1) (rw (e₁, e₂, questions) at (c .before .before .job-piece .ensures))
 
 pub write-piece-spec : {M : Type 1} → statement M
 write-piece-spec =

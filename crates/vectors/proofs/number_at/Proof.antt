@@ -32,16 +32,16 @@ with-digit-requires-2 : tie.Need-with-digit-requires-2 Inv-loop μ-loop
 with-digit-requires-2 c κs = search needs
 
 returns : tie.Need-returns Inv-loop μ-loop
-returns c = c .before .before .before .before .loop .inv
+returns c = search needs
 
 add-next-2 : tie.Need-add-next-2 Inv-loop μ-loop
 add-next-2 c = search needs
 
 loop-less : tie.Need-loop-less Inv-loop μ-loop
-loop-less c = omega (arith, c .before .before .before .loop-test .taken)
+loop-less c = omega arith
 
 loop-again : tie.Need-loop-again Inv-loop μ-loop
-loop-again c = record { further = omega (arith, c .before .before .before .before .loop .inv .further); within = omega (arith, c .before .before .before .loop-test .taken) }
+loop-again c = record { further = omega arith; within = omega arith }
 
 returns-2 : tie.Need-returns-2 Inv-loop μ-loop
 returns-2 c = c .before .loop .inv

@@ -23,10 +23,10 @@ put-number-requires : tie.Need-put-number-requires Inv-loop μ-loop
 put-number-requires c κs = c .before .before .before .loop .inv .0
 
 loop-less : tie.Need-loop-less Inv-loop μ-loop
-loop-less c = omega (arith, c .before .before .before .before .number-at .ensures .further, c .before .before .before .before .number-at .ensures .within, c .before .before .before .before .before .before .loop .inv .2)
+loop-less c = omega arith
 
 loop-again : tie.Need-loop-again Inv-loop μ-loop
-loop-again c = (c .before .before .put-number .ensures, omega (arith, c .before .job .given, c .before .before .before .before .before .before .loop .inv .1), c .before .before .before .before .number-at .ensures .within)
+loop-again c = (c .before .before .put-number .ensures, omega arith, omega arith)
 
 same-length : tie.Need-same-length Inv-loop μ-loop
 same-length c = c .before .loop .inv .1

@@ -37,9 +37,7 @@ module _ (c : tie.In-loop Inv-loop μ-loop) where
   few = omega (arith, inside, mul-le-mul-right {m = entry (c .before) .args .categories} {n = 32} width (entry (c .before) .pre .1))
 
 loop-holds : tie.Need-loop-holds Inv-loop μ-loop
-loop-holds c =
-    let a = c .before .before .args in
-    (search needs, all-none (a .width) (a .depth) (now (a .next)) (now (a .words)) (now (a .depths)))
+loop-holds c = let a = c .before .before .args in (search needs, all-none (a .width) (a .depth) (now (a .next)) (now (a .words)) (now (a .depths)))
 
 mul-from : tie.Need-mul-from Inv-loop μ-loop
 mul-from c = omega (arith, few c)
@@ -69,14 +67,14 @@ loop-less c = omega arith
 
 loop-again : tie.Need-loop-again Inv-loop μ-loop
 loop-again c =
-    let k = c .before .before .before .before .before .commit-rows in
-    let i = c .before .before .before .before .before .before .before .before in
-    let t = i .before in
-    let a = entry t .args in
-    let l = t .loop in (
+    let rows = c .before .before .before .before .before in
+    let k = rows .commit-rows in
+    let i = rows .before .before .before in
+    let a = entry (i .before) .args in
+    let l = i .before .loop in (
       search needs,
       all-more (a .width) (a .depth) (now (a .next)) (l .a) (now (a .words)) (now (a .depths)) (l .words) (l .depths) (k .last .0) (k .last .1 .1 .0) (l .changed) (c .if1 .changed) (k .result)
-          (λ q j h. entry t .pre .0 .narrow q j (omega (arith, inside i))) (l .inv .1) (k .ensures)
+          (λ q j h. entry (i .before) .pre .0 .narrow q j (omega (arith, inside i))) (l .inv .1) (k .ensures)
           (λ A. ⊎-elim (λ p. rw (p .2) (λ m. ⊎-elim inl (λ e. inr (e, p .0 .taken)) (p .1 .ensures A .0 m), λ s. p .1 .ensures A .1 (⊎-elim inl (λ e. inr (e .0)) s)))
           (λ p. rw (p .1) (inl, ⊎-elim (λ m. m) (λ e. absurd (false≢true (sym (p .0 .left) ∙ e .1))))) (c .if1 .came)),
     )

@@ -27,6 +27,10 @@ abbrev μ-loop : tie.MeasureT-loop
 abbrev entry : tie.At-loop Inv-loop μ-loop → tie.Start Inv-loop μ-loop
 entry t = t .before .before .before
 
+-- the loop, from where the depths are to be written
+abbrev turn : tie.After-write-depths-arg Inv-loop μ-loop → tie.At-loop Inv-loop μ-loop
+turn c = c .before .before .before .before .before
+
 -- what the loop has made of the memory is ready
 ready : (t : tie.At-loop Inv-loop μ-loop) → let a = entry t .args in Ready (a .to) (a .width) (t .loop .words) (now (a .next)) (t .loop .depths)
 ready t = let a = entry t .args in ready-kept (a .width) (a .depth) (now (a .next)) (a .from) (t .loop .q) (a .to) (now (a .words)) (now (a .depths)) (t .loop .words) (t .loop .depths) (t .loop .inv .2 .committed) (entry t .pre .0)
@@ -65,13 +69,12 @@ element-copy-out-new c = omega arith
 
 mul-write-depths : tie.Need-mul-write-depths Inv-loop μ-loop
 mul-write-depths c =
-    let t = c .before .before .before .before .before in
-    let a = entry t .args in
-    omega (arith, mul-le-mul-right {m = t .loop .q} {n = a .to} (a .width) (omega arith), entry t .pre .0 .depths-room)
+    let a = entry (turn c) .args in
+    omega (arith, mul-le-mul-right {m = turn c .loop .q} {n = a .to} (a .width) (omega arith), entry (turn c) .pre .0 .depths-room)
 
 write-depths-requires : tie.Need-write-depths-requires Inv-loop μ-loop
 write-depths-requires c κs = λ j m.
-    let t = c .before .before .before .before .before in
+    let t = turn c in
     let r = ready t in
     let l : t .loop .q < entry t .args .to = omega arith in
     omega (arith, digits-lt l (r .narrow (t .loop .q) j l (xor-member _ _ j (r .grows (t .loop .q) j l) .0 m .0)), r .depths-room)
@@ -80,7 +83,7 @@ mul-words : tie.Need-mul-words Inv-loop μ-loop
 mul-words c = omega arith
 
 slice-write-words : tie.Need-slice-write-words Inv-loop μ-loop
-slice-write-words c = omega (arith, ready (c .before .before .before .before .before .before .before .before) .words-room)
+slice-write-words c = omega (arith, ready (turn (c .before .before .before)) .words-room)
 
 add-q : tie.Need-add-q Inv-loop μ-loop
 add-q c = omega arith

@@ -44,7 +44,7 @@ module _ (c : tie.After-first Inv-loop μ-loop) where
   power : (1 * 2 ^ taken) % 2 ^ 64 ≡ 2 ^ taken
   power = one-shifted taken small
 
-  room : c .before .before .before .before .args .base + taken < length (now (c .before .before .before .before .args .depths))
+  room : let a = c .before .before .before .before .args in a .base + taken < length (now (a .depths))
   room = c .before .before .loop .inv .2 taken here
 
 loop-holds : tie.Need-loop-holds Inv-loop μ-loop

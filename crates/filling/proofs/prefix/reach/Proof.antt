@@ -15,8 +15,12 @@ Inv-loop symbols words places width start ends₀ d₀ ends d = (d ≤ length sy
 abbrev μ-loop : tie.MeasureT-loop
 μ-loop symbols words places width start ends₀ d₀ ends d = length symbols - d
 
+-- the function's entry, from the loop; and the loop, from where a category stands
 abbrev entry : tie.At-loop Inv-loop μ-loop → tie.Start Inv-loop μ-loop
 entry c = c .before .before .before .before
+
+abbrev turn : tie.Else2 Inv-loop μ-loop → tie.At-loop Inv-loop μ-loop
+turn c = c .before .before .before .before
 
 insert-requires : tie.Need-insert-requires Inv-loop μ-loop
 insert-requires c κs = search needs
@@ -25,9 +29,7 @@ loop-holds : tie.Need-loop-holds Inv-loop μ-loop
 loop-holds c = (search needs, reached-none (c .insert .result) (c .before .before .before .pre .1) (c .insert .ensures))
 
 returns : tie.Need-returns Inv-loop μ-loop
-returns c =
-    let l = c .before .before .loop in
-    reached-nowhere (l .d) (l .ends) (c .if1 .taken) (l .inv .1)
+returns c = let l = c .before .before .loop in reached-nowhere (l .d) (l .ends) (c .if1 .taken) (l .inv .1)
 
 shared-slice-read-symbol : tie.Need-shared-slice-read-symbol Inv-loop μ-loop
 shared-slice-read-symbol c = search needs
@@ -42,22 +44,17 @@ element-copy-out-after-class : tie.Need-element-copy-out-after-class Inv-loop μ
 element-copy-out-after-class c = search needs
 
 after-class-requires : tie.Need-after-class-requires Inv-loop μ-loop
-after-class-requires c κs = entry (c .before .before .before .before .before) .pre .0 .small _
+after-class-requires c κs = let l = c .before .before .before .before .before in entry l .pre .0 .small _
 
 -- the rows of the category are in the words
-inside :
-    (c : tie.Else2 Inv-loop μ-loop) →
-    let a = entry (c .before .before .before .before) .args in
-    (getD (now (a .symbols)) (c .before .before .before .before .loop .d) 0 - 128) * a .width + a .width ≤ length (now (a .words))
-inside c =
-    let l = c .before .before .before .before in
-    entry l .pre .0 .rows (l .loop .d) (c .before .before .before .loop-test .taken) (c .if2 .left)
+inside : (c : tie.Else2 Inv-loop μ-loop) → let l = turn c in let a = entry l .args in (getD (now (a .symbols)) (l .loop .d) 0 - 128) * a .width + a .width ≤ length (now (a .words))
+inside c = let l = turn c in entry l .pre .0 .rows (l .loop .d) (c .before .before .before .loop-test .taken) (c .if2 .left)
 
 mul-union : tie.Need-mul-union Inv-loop μ-loop
 mul-union c = omega (arith, inside c)
 
 union-requires : tie.Need-union-requires Inv-loop μ-loop
-union-requires c κs = (entry (c .before .before .before .before) .pre .0 .narrow, inside c)
+union-requires c κs = (entry (turn c) .pre .0 .narrow, inside c)
 
 add-d : tie.Need-add-d Inv-loop μ-loop
 add-d c = search needs
@@ -77,9 +74,7 @@ loop-again c =
     )
 
 returns-2 : tie.Need-returns-2 Inv-loop μ-loop
-returns-2 c =
-    let l = c .before .loop in
-    reached-all (l .d) (l .ends) (c .loop-test .left) (l .inv .1)
+returns-2 c = let l = c .before .loop in reached-all (l .d) (l .ends) (c .loop-test .left) (l .inv .1)
 
 pub reach-spec : {M : Type 1} → statement M
 reach-spec =

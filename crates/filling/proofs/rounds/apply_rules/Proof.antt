@@ -53,17 +53,17 @@ cast-left : tie.Need-cast-left Inv-loop μ-loop
 cast-left c = search needs
 
 rule-symbols-requires : tie.Need-rule-symbols-requires Inv-loop μ-loop
-rule-symbols-requires c κs = here (c .before .before .before .before) .stands
+rule-symbols-requires c κs = let turn = c .before .before .before .before in here turn .stands
 
 apply-requires : tie.Need-apply-requires Inv-loop μ-loop
 apply-requires c κs =
-    let e = entry (c .before .before .before .before .before .before) in
-    let p = c .before .before .before .before .before .before .before .loop .p in
-    let f = here (c .before .before .before .before .before .before) in
+    let turn = c .before .before .before .before .before .before in
+    let e = entry turn in
+    let p = turn .before .loop .p in
     let l : p < e .args .s .rules = omega arith in (
-      rw (c .before .rule-symbols .ensures) (rule-room _ _ (e .pre .0) p _ f l _ _ _ (e .pre .2) (e .pre .3) (e .pre .4)),
-      rw (c .before .before .rule-left .ensures) (rule-left-few _ _ (e .pre .0) p _ f l),
-      c .before .before .before .before .before .before .before .loop .inv .1 _ (e .pre .0) .long ∙ e .pre .5,
+      rw (c .before .rule-symbols .ensures) (rule-room _ _ (e .pre .0) p _ (here turn) l _ _ _ (e .pre .2) (e .pre .3) (e .pre .4)),
+      rw (c .before .before .rule-left .ensures) (rule-left-few _ _ (e .pre .0) p _ (here turn) l),
+      turn .before .loop .inv .1 _ (e .pre .0) .long ∙ e .pre .5,
     )
 
 add-p : tie.Need-add-p Inv-loop μ-loop
@@ -93,7 +93,7 @@ again c =
     (c .if1 .came)
 
 loop-again : tie.Need-loop-again Inv-loop μ-loop
-loop-again c = (omega arith, λ s e. rw (sections-one _ s _ e (c .before .before .before .before .before .before .pre .0)) (again c))
+loop-again c = (omega arith, λ s e. rw (sections-one _ s _ e (entry (c .before .before) .pre .0)) (again c))
 
 returns : tie.Need-returns Inv-loop μ-loop
 returns c =

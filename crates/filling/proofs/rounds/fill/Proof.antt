@@ -22,14 +22,21 @@ abbrev μ-loop : tie.MeasureT-loop
 μ-loop g s line words₀ depths₀ categories width rows starts masks places next₀ changed₀ depth₀ words depths next changed depth =
     2049 - depth
 
--- the function's entry, from where the loop begins
+-- the depths and the words are cleared, and the function's entry, from where the loop begins; and the loop, from where a round is committed
+abbrev deep : tie.After-insert Inv-loop μ-loop → tie.After-clear-depths Inv-loop μ-loop
+deep c = c .before .before .before .before .before .before .before
+
+abbrev cleared : tie.After-insert Inv-loop μ-loop → tie.After-clear-words Inv-loop μ-loop
+cleared c = deep c .before .before .before .before
+
 abbrev origin : tie.After-insert Inv-loop μ-loop → tie.Start Inv-loop μ-loop
-origin c = c .before .before .before .before .before .before .before .before .before .before .before .before .before .before .before .before .before
+origin c = cleared c .before .before .before .before .before .before
+
+abbrev turn : tie.After-commit-arg2 Inv-loop μ-loop → tie.In-loop Inv-loop μ-loop
+turn c = c .before .before .before .before .before .before .before .before .before
 
 given : (c : tie.After-insert Inv-loop μ-loop) → Given (grammarOf (now (origin c .args .g)) (origin c .args .s)) (now (origin c .args .line))
-given c =
-    let p = origin c .pre in
-    record { limits = sections-within _ _ (p .0); proper = sections-proper _ _ (p .0); short = p .1 .short }
+given c = let p = origin c .pre in record { limits = sections-within _ _ (p .0); proper = sections-proper _ _ (p .0); short = p .1 .short }
 
 add-width : tie.Need-add-width Inv-loop μ-loop
 add-width c = search needs
@@ -61,10 +68,7 @@ insert-requires : tie.Need-insert-requires Inv-loop μ-loop
 insert-requires c κs = search needs
 
 loop-holds : tie.Need-loop-holds Inv-loop μ-loop
-loop-holds c = (
-  omega arith,
-  start-done _ _ _ _ _ _ _ _ (category-count _ _ (origin c .pre .0)) (c .insert .ensures) (c .before .before .before .before .before .before .before .before .before .before .before .clear-words .ensures) (c .before .before .before .before .before .before .before .clear-depths .ensures),
-)
+loop-holds c = (omega arith, start-done _ _ _ _ _ _ _ _ (category-count _ _ (origin c .pre .0)) (c .insert .ensures) (cleared c .clear-words .ensures) (deep c .clear-depths .ensures))
 
 -- the loop goes on at most 2048 times
 some : (c : tie.In-loop Inv-loop μ-loop) → 0 < c .before .loop .changed
@@ -80,34 +84,35 @@ apply-rules-requires : tie.Need-apply-rules-requires Inv-loop μ-loop
 apply-rules-requires c κs = search needs
 
 -- the memory that the loop begins with has the room of the memory at entry
-room : (c : tie.After-insert Inv-loop μ-loop) → chartSize (origin c .args .s .categories) (length (now (origin c .args .line))) ≤ length (c .before .before .before .before .before .before .before .before .before .before .before .clear-words .last .0)
-room c = let h = origin c .pre .2 in le-trans h (le-of-eq (sym (ap length (c .before .before .before .before .before .before .before .before .before .before .before .clear-words .ensures) ∙ cleared-long _ _ h)))
+room : (c : tie.After-insert Inv-loop μ-loop) → chartSize (origin c .args .s .categories) (length (now (origin c .args .line))) ≤ length (cleared c .clear-words .last .0)
+room c = let h = origin c .pre .2 in le-trans h (le-of-eq (sym (ap length (cleared c .clear-words .ensures) ∙ cleared-long _ _ h)))
 
-deep-room : (c : tie.After-insert Inv-loop μ-loop) → depthsSize (origin c .args .s .categories) (length (now (origin c .args .line))) ≤ length (c .before .before .before .before .before .before .before .clear-depths .last .0)
-deep-room c = let h = origin c .pre .3 in le-trans h (le-of-eq (sym (ap length (c .before .before .before .before .before .before .before .clear-depths .ensures) ∙ cleared-long _ _ h)))
+deep-room : (c : tie.After-insert Inv-loop μ-loop) → depthsSize (origin c .args .s .categories) (length (now (origin c .args .line))) ≤ length (deep c .clear-depths .last .0)
+deep-room c = let h = origin c .pre .3 in le-trans h (le-of-eq (sym (ap length (deep c .clear-depths .ensures) ∙ cleared-long _ _ h)))
 
 commit-requires : tie.Need-commit-requires Inv-loop μ-loop
 commit-requires c κs =
-    let i = c .before .before .before .before .before .before .before .before .before .before .before in
-    let l = c .before .before .before .before .before .before .before .before .before .before .loop in
-    let p = origin i .pre in (
-      round-ready (given i) (l .depth) (l .changed) _ _ (l .words) (l .next) (l .depths) _ _ _ (l .inv .1) (i .before .before .rule-masks .ensures) (i .before .class-places .ensures)
-          (c .before .before .before .apply-rules .ensures) _ (category-count _ _ (p .0)) (room i) (deep-room i),
+    let l = turn c .before .loop in
+    let begun = turn c .before .before in
+    let p = origin begun .pre in (
+      round-ready (given begun) (l .depth) (l .changed) _ _ (l .words) (l .next) (l .depths) _ _ _ (l .inv .1) (begun .before .before .rule-masks .ensures) (begun .before .class-places .ensures)
+          (c .before .before .before .apply-rules .ensures) _ (category-count _ _ (p .0)) (room begun) (deep-room begun),
       whole _ _ (p .0) .categories-high,
       omega (arith, p .1 .short),
     )
 
 loop-less : tie.Need-loop-less Inv-loop μ-loop
-loop-less c = omega (arith, few (c .before .before .before .before .before .before .before .before .before .before .before .before .before .before))
+loop-less c = let ready = c .before .before .before .before .before in omega (arith, few (turn ready))
 
 loop-again : tie.Need-loop-again Inv-loop μ-loop
 loop-again c =
-    let i = c .before .before .before .before .before .before .before .before .before .before .before .before .before .before .before .before in
-    let l = c .before .before .before .before .before .before .before .before .before .before .before .before .before .before .before .loop in
-    let p = origin i .pre in (
-      omega (arith, few (c .before .before .before .before .before .before .before .before .before .before .before .before .before .before)),
-      round-done (given i) (l .depth) (l .changed) _ _ (l .words) (l .next) (l .depths) _ _ _ (l .inv .1) (i .before .before .rule-masks .ensures) (i .before .class-places .ensures)
-          (c .before .before .before .before .before .before .before .before .apply-rules .ensures) _ _ _ _ (category-count _ _ (p .0)) (some (c .before .before .before .before .before .before .before .before .before .before .before .before .before .before)) (c .before .before .before .before .commit .ensures),
+    let done = c .before .before .before .before in
+    let ready = done .before in
+    let l = turn ready .before .loop in
+    let begun = turn ready .before .before in (
+      omega (arith, few (turn ready)),
+      round-done (given begun) (l .depth) (l .changed) _ _ (l .words) (l .next) (l .depths) _ _ _ (l .inv .1) (begun .before .before .rule-masks .ensures) (begun .before .class-places .ensures)
+          (ready .before .before .before .apply-rules .ensures) _ _ _ _ (category-count _ _ (origin begun .pre .0)) (some (turn ready)) (done .commit .ensures),
     )
 
 cast-result : tie.Need-cast-result Inv-loop μ-loop
@@ -124,11 +129,11 @@ same-length-2 c = search needs
 
 returns : tie.Need-returns Inv-loop μ-loop
 returns c =
-    let i = c .before .before in
     let l = c .before .loop in
-    let p = origin i .pre in
-    filled-cleared _ _ (i .insert .result) _ _ _ _ _ (category-count _ _ (p .0)) (i .insert .ensures) (i .before .before .before .before .before .before .before .before .before .before .before .clear-words .ensures) (i .before .before .before .before .before .before .before .clear-depths .ensures) _ _ (p .2) (p .3)
-    (rounds-filled (given i) (l .depth) (l .changed) _ _ (l .words) (l .next) (l .depths) (c .loop-test .left) (l .inv .1))
+    let begun = c .before .before in
+    let p = origin begun .pre in
+    filled-cleared _ _ (begun .insert .result) _ _ _ _ _ (category-count _ _ (p .0)) (begun .insert .ensures) (cleared begun .clear-words .ensures) (deep begun .clear-depths .ensures) _ _ (p .2) (p .3)
+    (rounds-filled (given begun) (l .depth) (l .changed) _ _ (l .words) (l .next) (l .depths) (c .loop-test .left) (l .inv .1))
 
 pub fill-spec : {M : Type 1} → statement M
 fill-spec =

@@ -35,7 +35,7 @@ array-read-insert : tie.Need-array-read-insert Inv-loop μ-loop
 array-read-insert c = token (c .before)
 
 insert-requires : tie.Need-insert-requires Inv-loop μ-loop
-insert-requires c κs = omega (arith, c .before .before .before .before .pre .short)
+insert-requires c κs = search needs
 
 mul-places : tie.Need-mul-places Inv-loop μ-loop
 mul-places c = omega (arith, token (c .before .before))

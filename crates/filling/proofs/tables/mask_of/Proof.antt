@@ -48,10 +48,8 @@ loop-again c =
     )
 
 -- after the loop: the categories among all symbols
-all : (c : tie.After-loop Inv-loop μ-loop) → MaskBelow (now (c .before .before .before .args .symbols)) (length (now (c .before .before .before .args .symbols))) (c .before .loop .mask)
-all c =
-    let e : c .before .loop .d ≡ length (now (c .before .before .before .args .symbols)) = omega arith in
-    rw e at (c .before .loop .inv .1)
+all : (c : tie.After-loop Inv-loop μ-loop) → let symbols = now (c .before .before .before .args .symbols) in MaskBelow symbols (length symbols) (c .before .loop .mask)
+all c = let e : c .before .loop .d ≡ length (now (c .before .before .before .args .symbols)) = omega arith in rw e at (c .before .loop .inv .1)
 
 insert-requires-2 : tie.Need-insert-requires-2 Inv-loop μ-loop
 insert-requires-2 c κs = search needs
@@ -60,7 +58,7 @@ returns : tie.Need-returns Inv-loop μ-loop
 returns c = mask-empty _ _ (rw (c .before .if2 .taken) at (all (c .before .before))) (c .insert2 .ensures)
 
 returns-2 : tie.Need-returns-2 Inv-loop μ-loop
-returns-2 c = mask-some _ _ (c .before .before .before .before .pre) (pos-of-ne-zero (c .if2 .left)) (all (c .before))
+returns-2 c = let start = c .before .before .before .before in mask-some _ _ (start .pre) (pos-of-ne-zero (c .if2 .left)) (all (c .before))
 
 pub mask-of-spec : {M : Type 1} → statement M
 mask-of-spec =

@@ -42,9 +42,9 @@ rule-symbols-requires c κs = here (c .before) .stands
 
 mask-of-requires : tie.Need-mask-of-requires Inv-loop μ-loop
 mask-of-requires c κs =
-    let a = c .before .before .before .before .before in
-    let e = c .rule-symbols .ensures ∙ ap (λ (r : Rule). r .right) (here (c .before .before) .is) in
-    rw e (symbol-below _ _ (a .pre .0) (c .before .before .before .loop .p) (omega arith))
+    let turn = c .before .before in
+    let e = c .rule-symbols .ensures ∙ ap (λ (r : Rule). r .right) (here turn .is) in
+    rw e (symbol-below _ _ (turn .before .before .before .pre .0) (turn .before .loop .p) (omega arith))
 
 mul-masks : tie.Need-mul-masks Inv-loop μ-loop
 mul-masks c = omega (arith, few (c .before .before .before))
@@ -60,9 +60,9 @@ loop-less c = omega arith
 
 loop-again : tie.Need-loop-again Inv-loop μ-loop
 loop-again c =
-    let l = c .before .before .before .before .loop in
-    let m = rw (c .before .rule-symbols .ensures) at (c .mask-of .ensures) in
-    (omega arith, masks-more _ (l .p) (c .mask-of .result) (l .masks) (few (c .before .before .before)) m (l .inv .1))
+    let turn = c .before .before .before in
+    let l = turn .before .loop in
+    (omega arith, masks-more _ (l .p) (c .mask-of .result) (l .masks) (few turn) (rw (c .before .rule-symbols .ensures) at (c .mask-of .ensures)) (l .inv .1))
 
 returns : tie.Need-returns Inv-loop μ-loop
 returns c =

@@ -1,6 +1,6 @@
 -- `forest::count::count_place` meets its contract. The loop's invariant: `records` is the total of the starts below this one.
 use Prim.Native.Nat.{suc, _+_, _-_, _≤_}
-use mathlib.Core.Path.{_≡_, sym, ap, _∙_}
+use mathlib.Core.Path.{_≡_, sym}
 use native.Mathlib.Omega.{arith}
 use lib.ListN.{length}
 use denote.Ref.{now}
@@ -20,8 +20,9 @@ Inv-loop g at d line words width records₀ start₀ records start = (start ≤ 
 abbrev μ-loop : tie.MeasureT-loop
 μ-loop g at d line words width records₀ start₀ records start = width - start
 
-abbrev entry : tie.In-loop Inv-loop μ-loop → tie.Start Inv-loop μ-loop
-entry c = c .before .before .before .before .before
+-- the function's entry, from the loop
+abbrev entry : tie.At-loop Inv-loop μ-loop → tie.Start Inv-loop μ-loop
+entry c = c .before .before .before .before
 
 add-width : tie.Need-add-width Inv-loop μ-loop
 add-width c = search needs
@@ -34,13 +35,13 @@ count-start-requires c κs = search needs
 
 add-records : tie.Need-add-records Inv-loop μ-loop
 add-records c =
-    let i = c .before in
-    let e = entry i in
+    let turn = c .before .before in
+    let e = entry turn in
     let a = e .args in
-    let l = i .before .loop in
+    let l = turn .loop in
     let few = place-le (grammarGiven (now (a .g))) (now (a .line)) (e .pre .0 .isLine .short) (standing (now (a .g)) (a .at) .right) (a .d) in
     let more = total-next (startCount (grammarGiven (now (a .g))) (now (a .line)) (standing (now (a .g)) (a .at) .right) (a .d)) (l .start) in
-    omega (arith, c .count-start .ensures, l .inv .1, more, few (l .start + 1) (omega (arith, i .loop-test .taken)))
+    omega (arith, c .count-start .ensures, l .inv .1, more, few (l .start + 1) (omega (arith, c .before .loop-test .taken)))
 
 add-start : tie.Need-add-start Inv-loop μ-loop
 add-start c = search needs
@@ -50,18 +51,17 @@ loop-less c = search needs
 
 loop-again : tie.Need-loop-again Inv-loop μ-loop
 loop-again c =
-    let i = c .before in
-    let a = entry i .args in
-    let l = i .before .loop in
+    let turn = c .before .before in
+    let a = entry turn .args in
+    let l = turn .loop in
     let more = total-next (startCount (grammarGiven (now (a .g))) (now (a .line)) (standing (now (a .g)) (a .at) .right) (a .d)) (l .start) in
     (search needs, omega (arith, l .inv .1, c .count-start .ensures, more))
 
 returns : tie.Need-returns Inv-loop μ-loop
 returns c =
-    let l = c .before .loop in
-    let e = c .before .before .before .before .before in
-    let same : l .start ≡ suc (length (now (e .args .line))) = omega (arith, l .inv .0, c .loop-test .left) in
-    l .inv .1 ∙ ap (total (startCount (grammarGiven (now (e .args .g))) (now (e .args .line)) (standing (now (e .args .g)) (e .args .at) .right) (e .args .d))) same
+    let turn = c .before in
+    let same : turn .loop .start ≡ suc (length (now (entry turn .args .line))) = omega (arith, turn .loop .inv .0, c .loop-test .left) in
+    rw same at (turn .loop .inv .1)
 
 pub count-place-spec : {M : Type 1} → statement M
 count-place-spec =

@@ -90,10 +90,9 @@ loop-again c =
 returns : tie.Need-returns Inv-loop μ-loop
 returns c =
     let l = c .before .loop in
-    let e = c .before .before .before .before .before in
-    let a = e .args in
-    let same : l .p ≡ length (grammarGiven (now (a .g)) .rules) = omega (arith, l .inv .0, c .loop-test .left, ap (λ (s : Sections). s .rules) (e .pre .1), rules-all _ _ _ (e .pre .0)) in
-    l .inv .2 ∙ ap (total (ruleTotal (now (a .g)) (now (a .line)))) same ∙ sym (forest-counted (grammarGiven (now (a .g))) (now (a .line)))
+    let start = c .before .before .before .before .before in
+    let same : l .p ≡ length (grammarGiven (now (start .args .g)) .rules) = omega (arith, l .inv .0, c .loop-test .left, ap (λ (s : Sections). s .rules) (start .pre .1), rules-all _ _ _ (start .pre .0)) in
+    rw same at (l .inv .2) ∙ sym (forest-counted _ _)
 
 pub count-records-spec : {M : Type 1} → statement M
 count-records-spec =

@@ -1,6 +1,6 @@
 -- `forest::count::count_start` meets its contract. The loop's invariant: `records` is the total of the middles below m.
 use Prim.Native.Nat.{suc, _-_, _≤_}
-use mathlib.Core.Path.{_≡_, sym, ap, _∙_}
+use mathlib.Core.Path.{_≡_, sym}
 use mathlib.Core.Logic.{⊎-elim}
 use native.Mathlib.Omega.{arith}
 use lib.ListN.{length}
@@ -24,8 +24,9 @@ Inv-loop g at d line words start width middles records₀ m₀ records m = (m �
 abbrev μ-loop : tie.MeasureT-loop
 μ-loop g at d line words start width middles records₀ m₀ records m = width - m
 
-abbrev entry : tie.In-loop Inv-loop μ-loop → tie.Start Inv-loop μ-loop
-entry c = c .before .before .before .before .before .before
+-- the function's entry, from the loop
+abbrev entry : tie.At-loop Inv-loop μ-loop → tie.Start Inv-loop μ-loop
+entry c = c .before .before .before .before .before
 
 add-width : tie.Need-add-width Inv-loop μ-loop
 add-width c = search needs
@@ -37,10 +38,10 @@ loop-holds : tie.Need-loop-holds Inv-loop μ-loop
 loop-holds c = (search needs, sym (total-none _))
 
 member-requires : tie.Need-member-requires Inv-loop μ-loop
-member-requires c κs = let e = entry c in omega (arith, c .loop-test .taken, e .pre .0 .isLine .short)
+member-requires c κs = let e = entry (c .before) in omega (arith, c .loop-test .taken, e .pre .0 .isLine .short)
 
 symbol-ends-requires : tie.Need-symbol-ends-requires Inv-loop μ-loop
-symbol-ends-requires c κs = let e = entry (c .before .before) in (e .pre .0, e .pre .1, e .pre .2, omega (arith, c .before .before .loop-test .taken))
+symbol-ends-requires c κs = let e = entry (c .before .before .before) in (e .pre .0, e .pre .1, e .pre .2, omega (arith, c .before .before .loop-test .taken))
 
 count-requires : tie.Need-count-requires Inv-loop μ-loop
 count-requires c κs = search needs
@@ -51,7 +52,7 @@ cast-records c = search needs
 add-records : tie.Need-add-records Inv-loop μ-loop
 add-records c =
     let i = c .before .before .before .before in
-    let e = entry i in
+    let e = entry (i .before) in
     let l = i .before .loop in
     omega (arith, count-le 64 (c .before .symbol-ends .result), c .count .ensures, l .inv .1, start-le (grammarGiven (now (e .args .g))) (now (e .args .line)) (e .pre .0 .isLine .short) (standing (now (e .args .g)) (e .args .at) .right) (e .args .d) (e .args .start) (l .m) (omega (arith, i .loop-test .taken)))
 
@@ -64,7 +65,7 @@ loop-less c = search needs
 loop-again : tie.Need-loop-again Inv-loop μ-loop
 loop-again c =
     let i = c .before .before in
-    let e = entry i in
+    let e = entry (i .before) in
     let a = e .args in
     let l = i .before .loop in
     let b = c .before .member in
@@ -83,10 +84,9 @@ loop-again c =
 
 returns : tie.Need-returns Inv-loop μ-loop
 returns c =
-    let l = c .before .loop in
-    let e = c .before .before .before .before .before .before in
-    let same : l .m ≡ suc (length (now (e .args .line))) = omega (arith, l .inv .0, c .loop-test .left) in
-    l .inv .1 ∙ ap (total (middleCount (grammarGiven (now (e .args .g))) (now (e .args .line)) (standing (now (e .args .g)) (e .args .at) .right) (e .args .d) (e .args .start))) same
+    let turn = c .before in
+    let same : turn .loop .m ≡ suc (length (now (entry turn .args .line))) = omega (arith, turn .loop .inv .0, c .loop-test .left) in
+    rw same at (turn .loop .inv .1)
 
 pub count-start-spec : {M : Type 1} → statement M
 count-start-spec =

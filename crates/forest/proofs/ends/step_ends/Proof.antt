@@ -15,13 +15,15 @@ Inv-loop g at d line words set width all₀ m₀ all m = (m ≤ width) × StepBe
 abbrev μ-loop : tie.MeasureT-loop
 μ-loop g at d line words set width all₀ m₀ all m = width - m
 
+-- the function's entry, from the loop
+abbrev entry : tie.At-loop Inv-loop μ-loop → tie.Start Inv-loop μ-loop
+entry c = c .before .before .before .before
+
 add-width : tie.Need-add-width Inv-loop μ-loop
 add-width c = search needs
 
 loop-holds : tie.Need-loop-holds Inv-loop μ-loop
-loop-holds c =
-    let a = c .before .before .before .args in
-    (search needs, step-none (now (a .g)) (now (a .line)) (a .at) (a .d) (a .set))
+loop-holds c = (search needs, step-none _ _ _ _ _)
 
 member-requires : tie.Need-member-requires Inv-loop μ-loop
 member-requires c κs = search needs
@@ -37,22 +39,18 @@ loop-less c = search needs
 
 loop-again : tie.Need-loop-again Inv-loop μ-loop
 loop-again c =
-    let l = c .before .before .before .loop in
-    let a = c .before .before .before .before .before .before .before .args in
-    let b = c .before .member in (
+    let turn = c .before .before .before in
+    let l = turn .loop in
+    let a = entry turn .args in (
       search needs,
       ⊎-elim
-          (λ p. rw (p .2) (step-take (now (a .g)) (now (a .line)) (a .at) (a .d) (a .set) (l .m) (l .all) (p .1 .result) (member-true (a .set) (l .m) (b .ensures) (p .0 .taken)) (l .inv .1) (p .1 .ensures)))
-          (λ p. rw (p .1) (step-skip (now (a .g)) (now (a .line)) (a .at) (a .d) (a .set) (l .m) (l .all) (member-false (a .set) (l .m) (b .ensures) (p .0 .left)) (l .inv .1)))
+          (λ p. rw (p .2) (step-take (now (a .g)) (now (a .line)) (a .at) (a .d) (a .set) (l .m) (l .all) (p .1 .result) (member-true (a .set) (l .m) (c .before .member .ensures) (p .0 .taken)) (l .inv .1) (p .1 .ensures)))
+          (λ p. rw (p .1) (step-skip (now (a .g)) (now (a .line)) (a .at) (a .d) (a .set) (l .m) (l .all) (member-false (a .set) (l .m) (c .before .member .ensures) (p .0 .left)) (l .inv .1)))
           (c .if1 .came),
     )
 
 returns : tie.Need-returns Inv-loop μ-loop
-returns c =
-    let l = c .before .loop in
-    let e = c .before .before .before .before .before in
-    let a = e .args in
-    step-all (now (a .g)) (now (a .line)) (a .at) (a .d) (a .set) (l .m) (l .all) (λ m z. omega (arith, e .pre .3 m z, c .loop-test .left)) (l .inv .1)
+returns c = let l = c .before in step-all _ _ _ _ _ (l .loop .m) _ (λ m z. omega (arith, entry l .pre .3 m z, c .loop-test .left)) (l .loop .inv .1)
 
 pub step-ends-spec : {M : Type 1} → statement M
 step-ends-spec =

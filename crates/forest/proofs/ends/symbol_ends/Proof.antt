@@ -11,6 +11,7 @@ use Rattle.forest.proofs.EndsLaws.{in-words, in-few, ends-category, end
 use Rattle.forest.proofs.ends.symbol_ends.Statement.{statement}
 use Rattle.forest.proofs.ends.symbol_ends.Tie as tie
 
+-- the function's entry, from where the symbol is read
 abbrev entry : tie.After-shared-slice-known4 → tie.Start
 entry c = c .before .before .before .before .before
 
@@ -50,19 +51,13 @@ mul-result-2 : tie.Need-mul-result-2
 mul-result-2 c = omega (arith, few c)
 
 shared-slice-read-result : tie.Need-shared-slice-read-result
-shared-slice-read-result c =
-    let e = entry (c .before .before) in
-    rw (symbol-is (c .before .before)) (in-words _ _ _ (e .pre .0) _ (e .pre .1) _ _ (e .pre .2) (e .pre .3) (big (c .before)))
+shared-slice-read-result c = let e = entry (c .before .before) in rw (symbol-is (c .before .before)) (in-words _ _ _ (e .pre .0) _ (e .pre .1) _ _ (e .pre .2) (e .pre .3) (big (c .before)))
 
 returns : tie.Need-returns
-returns c =
-    let e = entry (c .before .before) in
-    rw (symbol-is (c .before .before)) (ends-category _ _ _ (e .pre .0) _ (e .pre .1) _ _ (e .pre .2) (e .pre .3) (big (c .before)))
+returns c = let e = entry (c .before .before) in rw (symbol-is (c .before .before)) (ends-category _ _ _ (e .pre .0) _ (e .pre .1) _ _ (e .pre .2) (e .pre .3) (big (c .before)))
 
 returns-2 : tie.Need-returns-2
-returns-2 c =
-    let e = entry (c .before .before) in
-    ends-past _ _ _ (e .pre .0) _ (e .pre .1) _ _ (e .pre .2) (e .pre .3) (small (c .before)) (c .if2 .taken)
+returns-2 c = let e = entry (c .before .before) in ends-past _ _ _ (e .pre .0) _ (e .pre .1) _ _ (e .pre .2) (e .pre .3) (small (c .before)) (c .if2 .taken)
 
 shared-slice-read-if3 : tie.Need-shared-slice-read-if3
 shared-slice-read-if3 c = search needs
@@ -72,21 +67,21 @@ cast-if3 c = omega (arith, c .shared-slice-known6 .given (entry (c .before .befo
 
 returns-3 : tie.Need-returns-3
 returns-3 c =
-    let k = c .before .before .before .before in
-    let e = entry k in
-    ends-other _ _ _ (e .pre .0) _ (e .pre .1) _ _ (e .pre .2) (e .pre .3) (small (c .before .before .before)) (λ q. c .if3 .taken (q ∙ sym (symbol-is k)))
+    let inside = c .before .before in
+    let e = entry (inside .before .before) in
+    ends-other _ _ _ (e .pre .0) _ (e .pre .1) _ _ (e .pre .2) (e .pre .3) (small (inside .before)) (λ q. c .if3 .taken (q ∙ sym (symbol-is (inside .before .before))))
 
 add-insert : tie.Need-add-insert
 add-insert c = search needs
 
 insert-requires : tie.Need-insert-requires
-insert-requires c κs = let e = entry (c .before .before .before .before) in omega (arith, e .pre .3, e .pre .0 .isLine .short, c .before .before .if2 .left)
+insert-requires c κs = let inside = c .before .before in let e = entry (inside .before .before) in omega (arith, e .pre .3, e .pre .0 .isLine .short, inside .if2 .left)
 
 returns-4 : tie.Need-returns-4
 returns-4 c =
-    let k = c .before .before .before .before .before in
-    let e = entry k in
-    ends-class _ _ _ (e .pre .0) _ (e .pre .1) _ _ (e .pre .2) (e .pre .3) (small (c .before .before .before .before)) (c .before .before .before .if2 .left) (c .before .if3 .left ∙ symbol-is k) _ (c .insert .ensures)
+    let inside = c .before .before .before in
+    let e = entry (inside .before .before) in
+    ends-class _ _ _ (e .pre .0) _ (e .pre .1) _ _ (e .pre .2) (e .pre .3) (small (inside .before)) (inside .if2 .left) (c .before .if3 .left ∙ symbol-is (inside .before .before)) _ (c .insert .ensures)
 
 pub symbol-ends-spec : {M : Type 1} → statement M
 symbol-ends-spec =

@@ -103,7 +103,7 @@ loop-again-3 c =
     search-place _ _ _ (entry i .pre .0) _ _ _ _ _ _ _ (i .before .loop .inv) (omega (arith, symbol (c .before), rule-long (c .before))) (omega (arith, c .if2 .left))
 
 returns-2 : tie.Need-returns-2 Inv-loop μ-loop
-returns-2 c = search-none _ _ _ (c .before .before .before .before .before .pre .0) _ _ _ _ _ _ _ (c .before .loop .inv) (c .loop-test .left)
+returns-2 c = let start = c .before .before .before .before .before in search-none _ _ _ (start .pre .0) _ _ _ _ _ _ _ (c .before .loop .inv) (c .loop-test .left)
 
 pub seek-record-spec : {M : Type 1} → statement M
 seek-record-spec =

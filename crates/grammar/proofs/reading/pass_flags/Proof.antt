@@ -17,17 +17,13 @@ loop-holds : tie.Need-loop-holds Inv-loop μ-loop
 loop-holds c = refl
 
 returns : tie.Need-returns Inv-loop μ-loop
-returns c =
-    let l = c .before .before .loop in
-    sym (each-short _ _ _ (l .left) (l .here) (c .before .loop-test .taken) (c .if1 .taken)) ∙ l .inv
+returns c = sym (each-short _ _ _ _ _ (c .before .loop-test .taken) (c .if1 .taken)) ∙ c .before .before .loop .inv
 
 shared-slice-read-if2 : tie.Need-shared-slice-read-if2 Inv-loop μ-loop
 shared-slice-read-if2 c = omega arith
 
 returns-2 : tie.Need-returns-2 Inv-loop μ-loop
-returns-2 c =
-    let l = c .before .before .before .before .loop in
-    sym (each-bad _ _ _ (l .left) (l .here) (c .before .before .before .loop-test .taken) (c .before .before .if1 .left) (lt-leb _ _ (c .if2 .taken))) ∙ l .inv
+returns-2 c = let turn = c .before .before .before in sym (each-bad _ _ _ _ _ (turn .loop-test .taken) (c .before .before .if1 .left) (lt-leb _ _ (c .if2 .taken))) ∙ turn .before .loop .inv
 
 add-here : tie.Need-add-here Inv-loop μ-loop
 add-here c = omega arith
@@ -39,9 +35,7 @@ loop-less : tie.Need-loop-less Inv-loop μ-loop
 loop-less c = omega arith
 
 loop-again : tie.Need-loop-again Inv-loop μ-loop
-loop-again c =
-    let l = c .before .before .before .before .loop in
-    sym (each-more _ _ _ (l .left) (l .here) (c .before .before .before .loop-test .taken) (c .before .before .if1 .left) (le-leb _ _ (c .if2 .left))) ∙ l .inv
+loop-again c = let turn = c .before .before .before in sym (each-more _ _ _ _ _ (turn .loop-test .taken) (c .before .before .if1 .left) (le-leb _ _ (c .if2 .left))) ∙ turn .before .loop .inv
 
 returns-3 : tie.Need-returns-3 Inv-loop μ-loop
 returns-3 c = sym (each-none _ _ _ _ _ (c .loop-test .left)) ∙ c .before .loop .inv

@@ -32,7 +32,7 @@ shared-slice-read-k : tie.Need-shared-slice-read-k
 shared-slice-read-k c = search needs
 
 cast-k : tie.Need-cast-k
-cast-k c = omega (arith, c .shared-slice-known3 .given (c .before .before .before .before .before .before .args .at + 1))
+cast-k c = let start = c .before .before .before .before .before .before in omega (arith, c .shared-slice-known3 .given (start .args .at + 1))
 
 returns-4 : tie.Need-returns-4
 unfolding ruleFrom

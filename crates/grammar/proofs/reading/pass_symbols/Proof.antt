@@ -18,9 +18,7 @@ loop-holds : tie.Need-loop-holds Inv-loop μ-loop
 loop-holds c = refl
 
 returns : tie.Need-returns Inv-loop μ-loop
-returns c =
-    let l = c .before .before .loop in
-    sym (each-short _ _ _ (l .left) (l .here) (c .before .loop-test .taken) (c .if1 .taken)) ∙ l .inv
+returns c = sym (each-short _ _ _ _ _ (c .before .loop-test .taken) (c .if1 .taken)) ∙ c .before .before .loop .inv
 
 shared-slice-read-is-symbol : tie.Need-shared-slice-read-is-symbol Inv-loop μ-loop
 shared-slice-read-is-symbol c = omega arith
@@ -30,8 +28,8 @@ is-symbol-requires c κs = search needs
 
 returns-2 : tie.Need-returns-2 Inv-loop μ-loop
 returns-2 c =
-    let l = c .before .before .before .before .before .loop in
-    sym (each-bad _ _ _ (l .left) (l .here) (c .before .before .before .before .loop-test .taken) (c .before .before .before .if1 .left) (sym (c .before .is-symbol .ensures) ∙ not-true _ (c .if2 .taken))) ∙ l .inv
+    let room = c .before .before .before in
+    sym (each-bad _ _ _ _ _ (room .before .loop-test .taken) (room .if1 .left) (sym (c .before .is-symbol .ensures) ∙ not-true _ (c .if2 .taken))) ∙ room .before .before .loop .inv
 
 add-here : tie.Need-add-here Inv-loop μ-loop
 add-here c = omega arith
@@ -44,8 +42,8 @@ loop-less c = omega arith
 
 loop-again : tie.Need-loop-again Inv-loop μ-loop
 loop-again c =
-    let l = c .before .before .before .before .before .loop in
-    sym (each-more _ _ _ (l .left) (l .here) (c .before .before .before .before .loop-test .taken) (c .before .before .before .if1 .left) (sym (c .before .is-symbol .ensures) ∙ not-false _ (c .if2 .left))) ∙ l .inv
+    let room = c .before .before .before in
+    sym (each-more _ _ _ _ _ (room .before .loop-test .taken) (room .if1 .left) (sym (c .before .is-symbol .ensures) ∙ not-false _ (c .if2 .left))) ∙ room .before .before .loop .inv
 
 returns-3 : tie.Need-returns-3 Inv-loop μ-loop
 returns-3 c = sym (each-none _ _ _ _ _ (c .loop-test .left)) ∙ c .before .loop .inv

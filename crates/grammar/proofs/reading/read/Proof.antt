@@ -9,7 +9,7 @@ use Rattle.grammar.proofs.reading.read.Statement.{statement}
 use Rattle.grammar.proofs.reading.read.Tie as tie
 
 -- the sections were read
-accepted : (c : tie.After-s) → sectionsOf (now (c .before .before .before .before .args .g)) ≡ Accepted (c .s .given .0 .0)
+accepted : (c : tie.After-s) → let start = c .before .before .before .before in sectionsOf (now (start .args .g)) ≡ Accepted (c .s .given .0 .0)
 accepted c = sym (c .before .before .read-sections .ensures) ∙ c .s .given .1
 
 read-sections-requires : tie.Need-read-sections-requires

@@ -10,14 +10,24 @@ use Rattle.grammar.proofs.ReadingLaws.{flags-section-to, rules-section-
 use Rattle.grammar.proofs.reading.read_sections.Statement.{statement}
 use Rattle.grammar.proofs.reading.read_sections.Tie as tie
 
+-- the function's entry, from where the classes are passed; they, from where the categories are; and these, from where the rules are
+abbrev entry : tie.After-next → tie.Start
+entry c = c .before .before .before .before
+
+abbrev classes : tie.After-next2 → tie.After-next
+classes c = c .before .before .before .before .before
+
+abbrev categories : tie.After-next3 → tie.After-next2
+categories c = c .before .before .before .before .before
+
 -- what the sections that were passed over gave
-first : (c : tie.After-next) → flagsSection (now (c .before .before .before .before .args .g)) 128 0 ≡ To (c .next .given .0 .0)
+first : (c : tie.After-next) → flagsSection (now (entry c .args .g)) 128 0 ≡ To (c .next .given .0 .0)
 first c = sym (c .before .before .pass-flags-section .ensures) ∙ c .next .given .1
 
-second : (c : tie.After-next2) → flagsSection (now (c .before .before .before .before .before .before .before .before .before .args .g)) 32 (c .before .before .before .before .before .next .given .0 .0) ≡ To (c .next2 .given .0 .0)
+second : (c : tie.After-next2) → flagsSection (now (entry (classes c) .args .g)) 32 (classes c .next .given .0 .0) ≡ To (c .next2 .given .0 .0)
 second c = sym (c .before .before .pass-flags-section2 .ensures) ∙ c .next2 .given .1
 
-third : (c : tie.After-next3) → let s = c .before .before .before .before .before in let f = s .before .before .before .before .before in let g = now (f .before .before .before .before .args .g) in rulesSection g (byte g 0) (byte g (f .next .given .0 .0)) (s .next2 .given .0 .0) ≡ To (c .next3 .given .0 .0)
+third : (c : tie.After-next3) → let s = categories c in let f = classes s in let g = now (entry f .args .g) in rulesSection g (byte g 0) (byte g (f .next .given .0 .0)) (s .next2 .given .0 .0) ≡ To (c .next3 .given .0 .0)
 third c = sym (c .before .before .pass-rules-section .ensures) ∙ c .next3 .given .1
 
 pass-flags-section-requires : tie.Need-pass-flags-section-requires
@@ -45,9 +55,7 @@ enum-known-refusal-2 : tie.Need-enum-known-refusal-2
 enum-known-refusal-2 c = search needs
 
 returns-2 : tie.Need-returns-2
-returns-2 c =
-    let r = c .before .before .before in
-    sym (sections-second _ _ (first (r .before .before .before)) _ (sym (r .pass-flags-section2 .ensures) ∙ c .before .refusal2 .given .1))
+returns-2 c = let r = c .before .before .before in sym (sections-second _ _ (first (r .before .before .before)) _ (sym (r .pass-flags-section2 .ensures) ∙ c .before .refusal2 .given .1))
 
 enum-known-next-2 : tie.Need-enum-known-next-2
 enum-known-next-2 c = search needs
@@ -56,7 +64,7 @@ shared-slice-read-categories : tie.Need-shared-slice-read-categories
 shared-slice-read-categories c = flags-section-to _ _ _ _ (second (c .before .before)) .inside
 
 cast-categories : tie.Need-cast-categories
-cast-categories c = omega (arith, c .shared-slice-known3 .given (c .before .before .before .before .before .before .before .next .given .0 .0))
+cast-categories c = omega (arith, c .shared-slice-known3 .given (classes (c .before .before) .next .given .0 .0))
 
 pass-rules-section-requires : tie.Need-pass-rules-section-requires
 pass-rules-section-requires c κs = search needs
@@ -68,7 +76,7 @@ returns-3 : tie.Need-returns-3
 returns-3 c =
     let r = c .before .before .before in
     let s = r .before .before .before in
-    sym (sections-third _ _ (first (s .before .before .before .before .before)) _ (second s) _ (sym (r .pass-rules-section .ensures) ∙ c .before .refusal3 .given .1))
+    sym (sections-third _ _ (first (classes s)) _ (second s) _ (sym (r .pass-rules-section .ensures) ∙ c .before .refusal3 .given .1))
 
 enum-known-next-3 : tie.Need-enum-known-next-3
 enum-known-next-3 c = search needs
@@ -77,23 +85,16 @@ shared-slice-read-rules : tie.Need-shared-slice-read-rules
 shared-slice-read-rules c = rules-section-to _ _ _ _ _ (third (c .before .before)) .inside
 
 cast-rules : tie.Need-cast-rules
-cast-rules c = omega (arith, c .shared-slice-known4 .given (c .before .before .before .before .before .before .before .next2 .given .0 .0))
+cast-rules c = omega (arith, c .shared-slice-known4 .given (categories (c .before .before) .next2 .given .0 .0))
 
 add-t24 : tie.Need-add-t24
-add-t24 c =
-    let s = c .before .before .before .before .before .before .before in
-    omega (arith, flags-section-to _ _ _ _ (second s) .inside, s .before .before .before .before .before .before .before .before .before .good .0)
+add-t24 c = omega (arith, flags-section-to _ _ _ _ (second (categories (c .before .before))) .inside)
 
 add-t25 : tie.Need-add-t25
-add-t25 c =
-    let r = c .before .before in
-    omega (arith, rules-section-to _ _ _ _ _ (third r) .inside, r .before .before .before .before .before .before .before .before .before .before .before .before .before .before .good .0)
+add-t25 c = omega (arith, rules-section-to _ _ _ _ _ (third (c .before .before)) .inside)
 
 returns-4 : tie.Need-returns-4
-returns-4 c =
-    let r = c .before .before in
-    let s = r .before .before .before .before .before in
-    sym (sections-whole _ _ (first (s .before .before .before .before .before)) _ (second s) _ (third r))
+returns-4 c = let r = c .before .before in let s = categories r in sym (sections-whole _ _ (first (classes s)) _ (second s) _ (third r))
 
 pub read-sections-spec : {M : Type 1} → statement M
 read-sections-spec =

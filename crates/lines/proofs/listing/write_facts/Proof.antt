@@ -1,9 +1,10 @@
 -- `lines::listing::write_facts` meets its contract. The loop's invariant: what is printed of the first q numbers is written. The measure is how many are left.
 use borrow.Author.Needs.{needs}
 use native.Mathlib.Omega.{arith}
-use Prim.Native.Nat.{_-_, _/_, _≤_, _<_}
+use Prim.Native.Nat.{ℕ, _-_, _/_, _≤_, _<_}
 use mathlib.Core.Path.{_≡_, sym}
 use native.Mathlib.Nat.{div-le-self, mod-le}
+use lib.ListN.{length}
 use Rattle.derivation.specs.Listing.{gathered}
 use Rattle.lines.specs.Stored.{Stored}
 use Rattle.lines.specs.Listing.{factLineAt}
@@ -18,10 +19,11 @@ Inv-loop out₀ at depths numbers width place₀ q₀ out place q = (q ≤ numbe
 abbrev μ-loop : tie.MeasureT-loop
 μ-loop out₀ at depths numbers width place₀ q₀ out place q = numbers - q
 
+few : (c : tie.After-shared-slice-known Inv-loop μ-loop) → let a = c .before .before .args in (k : ℕ) → k < a .numbers → length (factLineAt (a .depths .now) (a .width) k) ≤ 29
+few c k l = let a = c .before .before .args in fact-few (a .depths .now) (a .width) k (omega arith) (omega (arith, c .shared-slice-known .given k))
+
 loop-holds : tie.Need-loop-holds Inv-loop μ-loop
-loop-holds c =
-    let start = c .before .before in
-    (omega arith, gather-none 29 (start .args .numbers) (factLineAt (start .args .depths .now) (start .args .width)) (λ k l. fact-few (start .args .depths .now) (start .args .width) k (omega (arith, l, start .pre .2)) (omega (arith, c .shared-slice-known .given k))) (start .pre .3))
+loop-holds c = let start = c .before .before in (omega arith, gather-none 29 _ (factLineAt (start .args .depths .now) (start .args .width)) (few c) (start .pre .3))
 
 div-row : tie.Need-div-row Inv-loop μ-loop
 div-row c = search needs
@@ -46,44 +48,42 @@ rem-write-fact-2 c = search needs
 
 write-fact-requires : tie.Need-write-fact-requires Inv-loop μ-loop
 write-fact-requires c κs =
-    let start = c .before .before .before .before .before .before in
-    let l = c .before .before .before .loop in
-    let below = c .before .before .loop-test .taken in
-    let small : l .q < 16384 = omega (arith, below, start .pre .2) in
-    let row = div-le-self (l .q) (start .args .width) in (
-      omega (arith, row, div-le-self (l .q / start .args .width) (start .args .width)),
-      omega (arith, row, mod-le (l .q / start .args .width) (start .args .width)),
-      omega (arith, mod-le (l .q) (start .args .width)),
-      omega (arith, c .before .shared-slice-known2 .given (l .q)),
-      gather-room 29 (start .args .numbers) (factLineAt (start .args .depths .now) (start .args .width)) (λ k l. fact-few (start .args .depths .now) (start .args .width) k (omega (arith, l, start .pre .2)) (omega (arith, c .before .shared-slice-known2 .given k))) (start .pre .3) (l .inv .1) below,
+    let here = c .before .before .before in
+    let start = here .before .before .before in
+    let q = here .loop .q in
+    let w = start .args .width in
+    let row = div-le-self q w in (
+      omega (arith, row, div-le-self (q / w) w),
+      omega (arith, row, mod-le (q / w) w),
+      omega (arith, mod-le q w),
+      omega (arith, c .before .shared-slice-known2 .given q),
+      gather-room 29 _ (factLineAt (start .args .depths .now) w) (few (here .before)) (start .pre .3) (here .loop .inv .1) (c .before .before .loop-test .taken),
     )
 
 add-q : tie.Need-add-q Inv-loop μ-loop
 add-q c = search needs
 
 loop-less : tie.Need-loop-less Inv-loop μ-loop
-loop-less c = omega (arith, c .before .before .before .before .before .loop-test .taken)
+loop-less c = search needs
 
 loop-again : tie.Need-loop-again Inv-loop μ-loop
 loop-again c =
-    let start = c .before .before .before .before .before .before .before .before .before in
-    let l = c .before .before .before .before .before .before .loop in
-    let below = c .before .before .before .before .before .loop-test .taken in
-    (omega (arith, below), gather-more 29 (start .args .numbers) (factLineAt (start .args .depths .now) (start .args .width)) (λ k l. fact-few (start .args .depths .now) (start .args .width) k (omega (arith, l, start .pre .2)) (omega (arith, c .before .before .before .before .shared-slice-known2 .given k))) (start .pre .3) (l .inv .1) below (c .before .before .write-fact .ensures))
+    let here = c .before .before .before .before .before .before in
+    let start = here .before .before .before in
+    (omega arith, gather-more 29 _ (factLineAt (start .args .depths .now) (start .args .width)) (few (here .before)) (start .pre .3) (here .loop .inv .1) (omega arith) (c .before .before .write-fact .ensures))
 
 same-length : tie.Need-same-length Inv-loop μ-loop
 same-length c =
-    let start = c .before .before .before .before in
-    let l = c .before .loop in
-    gather-long 29 (start .args .numbers) (factLineAt (start .args .depths .now) (start .args .width)) (λ k l. fact-few (start .args .depths .now) (start .args .width) k (omega (arith, l, start .pre .2)) (omega (arith, c .before .before .shared-slice-known .given k))) (start .pre .3) (l .inv .1) (l .inv .0)
+    let here = c .before in
+    let start = here .before .before .before in
+    gather-long 29 _ (factLineAt (start .args .depths .now) (start .args .width)) (few (here .before)) (start .pre .3) (here .loop .inv .1) (here .loop .inv .0)
 
 returns : tie.Need-returns Inv-loop μ-loop
 returns c =
-    let start = c .before .before .before .before in
-    let l = c .before .loop in
-    let e : l .q ≡ start .args .numbers = omega (arith, l .inv .0, c .loop-test .left) in
-    let few = gather-few 29 (start .args .numbers) (factLineAt (start .args .depths .now) (start .args .width)) (λ k l. fact-few (start .args .depths .now) (start .args .width) k (omega (arith, l, start .pre .2)) (omega (arith, c .before .before .shared-slice-known .given k))) (start .pre .3) (l .inv .1) (l .inv .0) in
-    rw (sym e) (l .inv .1, few)
+    let here = c .before in
+    let start = here .before .before .before in
+    let e : here .loop .q ≡ start .args .numbers = omega arith in
+    rw (sym e) (here .loop .inv .1, gather-few 29 _ (factLineAt (start .args .depths .now) (start .args .width)) (few (here .before)) (start .pre .3) (here .loop .inv .1) (here .loop .inv .0))
 
 pub write-facts-spec : {M : Type 1} → statement M
 write-facts-spec =

@@ -7,10 +7,20 @@ use lib.ListN.{take, length-append}
 use lib.Seq.{length-take-le}
 use Rattle.lines.specs.Decimal.{digitCode}
 use Rattle.lines.specs.Lines.{text}
-use Rattle.lines.proofs.WriteLaws.{stored-then, stored-long, digits-long}
+use Rattle.lines.proofs.WriteLaws.{stored-then, digits-long}
 use Rattle.lines.proofs.LineLaws.{marks-none, marks-parts}
 use Rattle.lines.proofs.listing.write_marks.Statement.{statement}
 use Rattle.lines.proofs.listing.write_marks.Tie as tie
+
+-- the function's entry, from where the word is written; the word, from where the space after it is; and that, from where the digits are
+abbrev entry : tie.After-write-bytes → tie.Start
+entry c = c .before .before .before .before .before
+
+abbrev word : tie.After-write-byte2 → tie.After-write-bytes
+word c = c .before .before .before .before .before
+
+abbrev space : tie.After-write-digits → tie.After-write-byte2
+space c = c .before .before .before .before
 
 slice-aggregate-write-bytes : tie.Need-slice-aggregate-write-bytes
 slice-aggregate-write-bytes c = search needs
@@ -27,9 +37,9 @@ same-length c = search needs
 returns : tie.Need-returns
 unfolding text
 returns c =
-    let start = c .before .before .before .before .before .before .before .before .before .before .before .before in
-    let e : start .args .n ≡ 0 = omega arith in
-    rw (e, sym marks-none) (stored-then (omega (arith, start .pre .1)) (c .before .before .before .before .before .before .before .write-bytes .ensures) (c .before .before .write-byte .ensures))
+    let begun = c .before .before .before .before .before .before .before in
+    let e : entry begun .args .n ≡ 0 = omega arith in
+    rw (e, sym marks-none) (stored-then (omega arith) (begun .write-bytes .ensures) (c .before .before .write-byte .ensures))
 
 write-byte-requires-2 : tie.Need-write-byte-requires-2
 write-byte-requires-2 c κs = search needs
@@ -38,16 +48,7 @@ write-digits-requires : tie.Need-write-digits-requires
 write-digits-requires c κs = search needs
 
 write-byte-requires-3 : tie.Need-write-byte-requires-3
-write-byte-requires-3 c κs =
-    let start = c .before .before .before .before .before .before .before .before .before .before .before .before .before .before .before .before .before in
-    let name = c .before .before .before .before .before .before .before .before .before .before .before .before .write-bytes .ensures in
-    let long₁ = stored-long (omega (arith, start .pre .1)) name in
-    let space = c .before .before .before .before .before .before .before .write-byte2 .ensures in
-    let long₂ = stored-long (omega (arith, start .pre .1, long₁, name .after)) space in
-    let digits = c .before .before .before .write-digits .ensures in
-    let count = digits-long (start .args .marks .now) (start .args .n) (start .pre .0) in
-    let long₃ = stored-long (omega (arith, start .pre .1, long₁, long₂, name .after, space .after, count)) digits in
-    omega (arith, start .pre .1, long₁, long₂, long₃, name .after, space .after, digits .after, count)
+write-byte-requires-3 c κs = let start = entry (word (space (c .before .before .before))) in omega (arith, digits-long (start .args .marks .now) (start .args .n) (start .pre .0))
 
 same-length-2 : tie.Need-same-length-2
 same-length-2 c = search needs
@@ -55,18 +56,15 @@ same-length-2 c = search needs
 returns-2 : tie.Need-returns-2
 unfolding text
 returns-2 c =
-    let start = c .before .before .before .before .before .before .before .before .before .before .before .before .before .before .before .before .before .before .before .before in
-    let name = c .before .before .before .before .before .before .before .before .before .before .before .before .before .before .before .write-bytes .ensures in
-    let long₁ = stored-long (omega (arith, start .pre .1)) name in
-    let space = c .before .before .before .before .before .before .before .before .before .before .write-byte2 .ensures in
-    let long₂ = stored-long (omega (arith, start .pre .1, long₁, name .after)) space in
-    let digits = c .before .before .before .before .before .before .write-digits .ensures in
-    let count = digits-long (start .args .marks .now) (start .args .n) (start .pre .0) in
-    let some = length-take-le (start .args .n) (start .args .marks .now) (start .pre .0) in
-    let last = stored-then (omega (arith, start .pre .1, long₁, long₂, name .after, space .after, count)) digits (c .before .before .write-byte3 .ensures) in
-    let all = length-append (map digitCode (take (start .args .n) (start .args .marks .now))) (10 ∷ []) in
-    let rest = stored-then (omega (arith, start .pre .1, long₁, name .after, count, all)) space last in
-    rw (sym (marks-parts (take (start .args .n) (start .args .marks .now)) (omega arith))) (stored-then (omega (arith, start .pre .1, count, all)) name rest)
+    let digits = c .before .before .before .before .before .before in
+    let begun = word (space digits) in
+    let a = entry begun .args in
+    let count = digits-long (a .marks .now) (a .n) (entry begun .pre .0) in
+    let some = length-take-le (a .n) (a .marks .now) (entry begun .pre .0) in
+    let last = stored-then (omega (arith, count)) (digits .write-digits .ensures) (c .before .before .write-byte3 .ensures) in
+    let all = length-append (map digitCode (take (a .n) (a .marks .now))) (10 ∷ []) in
+    let rest = stored-then (omega (arith, count, all)) (space digits .write-byte2 .ensures) last in
+    rw (sym (marks-parts (take (a .n) (a .marks .now)) (omega arith))) (stored-then (omega (arith, count, all)) (begun .write-bytes .ensures) rest)
 
 pub write-marks-spec : {M : Type 1} → statement M
 write-marks-spec =

@@ -3,7 +3,7 @@ use borrow.Author.Needs.{needs}
 use native.Mathlib.Omega.{arith}
 use Prim.Native.Nat.{ℕ, _+_, _-_, _*_, _≤_, _<_}
 use mathlib.Core.Path.{_≡_, sym}
-use lib.ListN.{getD}
+use lib.ListN.{length}
 use Rattle.derivation.specs.Listing.{gathered}
 use Rattle.lines.specs.Stored.{Stored}
 use Rattle.lines.specs.Lines.{text, lineOf, numbered}
@@ -19,10 +19,15 @@ Inv-loop out₀ at nodes count place₀ k₀ t9 out place k = (k ≤ count) × S
 abbrev μ-loop : tie.MeasureT-loop
 μ-loop out₀ at nodes count place₀ k₀ t9 out place k = count - k
 
+-- the loop, from where a node's bytes are read; each node's line is short
+abbrev turn : tie.After-shared-slice-known5 Inv-loop μ-loop → tie.At-loop Inv-loop μ-loop
+turn c = c .before .before .before .before .before
+
+few : (c : tie.After-shared-slice-known Inv-loop μ-loop) (k : ℕ) → k < c .before .before .args .count → length (nodeLineAt (c .before .before .args .nodes .now) k) ≤ 21
+few c k l = node-few (c .before .before .args .nodes .now) k (λ i. omega (arith, c .shared-slice-known .given i))
+
 loop-holds : tie.Need-loop-holds Inv-loop μ-loop
-loop-holds c =
-    let start = c .before .before in
-    (omega arith, gather-none 21 (start .args .count) (nodeLineAt (start .args .nodes .now)) (λ k l. node-few (start .args .nodes .now) k (λ i. omega (arith, c .shared-slice-known .given i))) (start .pre .1))
+loop-holds c = (omega arith, gather-none 21 _ (nodeLineAt (c .before .before .args .nodes .now)) (few c) (c .before .before .pre .1))
 
 mul-first : tie.Need-mul-first Inv-loop μ-loop
 mul-first c = search needs
@@ -49,7 +54,7 @@ shared-slice-read-t20 : tie.Need-shared-slice-read-t20 Inv-loop μ-loop
 shared-slice-read-t20 c = search needs
 
 cast-t21 : tie.Need-cast-t21 Inv-loop μ-loop
-cast-t21 c = omega (arith, c .shared-slice-known4 .given (4 * c .before .before .before .before .loop .k + 2))
+cast-t21 c = let turn = c .before .before .before .before in omega (arith, c .shared-slice-known4 .given (4 * turn .loop .k + 2))
 
 add-t22 : tie.Need-add-t22 Inv-loop μ-loop
 add-t22 c = search needs
@@ -58,7 +63,7 @@ shared-slice-read-t24 : tie.Need-shared-slice-read-t24 Inv-loop μ-loop
 shared-slice-read-t24 c = search needs
 
 cast-t25 : tie.Need-cast-t25 Inv-loop μ-loop
-cast-t25 c = omega (arith, c .shared-slice-known5 .given (4 * c .before .before .before .before .before .loop .k + 3))
+cast-t25 c = omega (arith, c .shared-slice-known5 .given (4 * turn c .loop .k + 3))
 
 slice-aggregate-write-line : tie.Need-slice-aggregate-write-line Inv-loop μ-loop
 slice-aggregate-write-line c = search needs
@@ -69,40 +74,36 @@ slice-aggregate-write-line-2 c = search needs
 write-line-requires : tie.Need-write-line-requires Inv-loop μ-loop
 unfolding numbered lineOf text
 write-line-requires c κs =
-    let start = c .before .before .before .before .before .before .before .before .before .before .before in
-    let l = c .before .before .before .before .before .before .before .before .loop in
-    let byte : (i : ℕ) → getD (start .args .nodes .now) i 0 < 256 = λ i. omega (arith, c .before .before .before .shared-slice-known5 .given i) in
-    let few = node-few (start .args .nodes .now) (l .k) byte in
-    let room = gather-room 21 (start .args .count) (nodeLineAt (start .args .nodes .now)) (λ k l. node-few (start .args .nodes .now) k byte) (start .pre .1) (l .inv .1) (c .before .before .before .before .before .before .before .loop-test .taken) in
-    (omega arith, omega (arith, few, room))
+    let here = turn (c .before .before .before) in
+    let start = here .before .before .before in
+    let room = gather-room 21 _ (nodeLineAt (start .args .nodes .now)) (few (here .before)) (start .pre .1) (here .loop .inv .1) (omega arith) in
+    (omega arith, omega (arith, few (here .before) (here .loop .k) (omega arith), room))
 
 add-k : tie.Need-add-k Inv-loop μ-loop
 add-k c = search needs
 
 loop-less : tie.Need-loop-less Inv-loop μ-loop
-loop-less c = omega (arith, c .before .before .before .before .before .before .before .before .before .before .loop-test .taken)
+loop-less c = search needs
 
 loop-again : tie.Need-loop-again Inv-loop μ-loop
 unfolding numbered lineOf text
 loop-again c =
-    let start = c .before .before .before .before .before .before .before .before .before .before .before .before .before .before in
-    let l = c .before .before .before .before .before .before .before .before .before .before .before .loop in
-    let below = c .before .before .before .before .before .before .before .before .before .before .loop-test .taken in
-    (omega (arith, below), gather-more 21 (start .args .count) (nodeLineAt (start .args .nodes .now)) (λ k l. node-few (start .args .nodes .now) k (λ i. omega (arith, c .before .before .before .before .before .before .shared-slice-known5 .given i))) (start .pre .1) (l .inv .1) below (c .before .before .write-line .ensures))
+    let here = turn (c .before .before .before .before .before .before) in
+    let start = here .before .before .before in
+    (omega arith, gather-more 21 _ (nodeLineAt (start .args .nodes .now)) (few (here .before)) (start .pre .1) (here .loop .inv .1) (omega arith) (c .before .before .write-line .ensures))
 
 same-length : tie.Need-same-length Inv-loop μ-loop
 same-length c =
-    let start = c .before .before .before .before in
-    let l = c .before .loop in
-    gather-long 21 (start .args .count) (nodeLineAt (start .args .nodes .now)) (λ k l. node-few (start .args .nodes .now) k (λ i. omega (arith, c .before .before .shared-slice-known .given i))) (start .pre .1) (l .inv .1) (l .inv .0)
+    let here = c .before in
+    let start = here .before .before .before in
+    gather-long 21 _ (nodeLineAt (start .args .nodes .now)) (few (here .before)) (start .pre .1) (here .loop .inv .1) (here .loop .inv .0)
 
 returns : tie.Need-returns Inv-loop μ-loop
 returns c =
-    let start = c .before .before .before .before in
-    let l = c .before .loop in
-    let e : l .k ≡ start .args .count = omega (arith, l .inv .0, c .loop-test .left) in
-    let few = gather-few 21 (start .args .count) (nodeLineAt (start .args .nodes .now)) (λ k l. node-few (start .args .nodes .now) k (λ i. omega (arith, c .before .before .shared-slice-known .given i))) (start .pre .1) (l .inv .1) (l .inv .0) in
-    rw (sym e) (l .inv .1, few)
+    let here = c .before in
+    let start = here .before .before .before in
+    let e : here .loop .k ≡ start .args .count = omega arith in
+    rw (sym e) (here .loop .inv .1, gather-few 21 _ (nodeLineAt (start .args .nodes .now)) (few (here .before)) (start .pre .1) (here .loop .inv .1) (here .loop .inv .0))
 
 pub write-nodes-spec : {M : Type 1} → statement M
 write-nodes-spec =

@@ -2,48 +2,42 @@
 use borrow.Author.Needs.{needs}
 use native.Mathlib.Omega.{arith}
 use mathlib.Core.List.{[], _∷_, map}
-use lib.ListN.{length-append}
+use Prim.Native.Nat.{_+_, _≤_}
+use lib.ListN.{length, length-append}
+use denote.Ref.{now}
 use Rattle.lines.specs.Decimal.{decimal}
 use Rattle.lines.specs.Lines.{spaced}
-use Rattle.lines.proofs.WriteLaws.{stored-then, stored-long}
+use Rattle.lines.proofs.WriteLaws.{stored-then}
 use Rattle.lines.proofs.LineLaws.{line-long}
 use Rattle.lines.proofs.writing.write_line.Statement.{statement}
 use Rattle.lines.proofs.writing.write_line.Tie as tie
 
+-- the function's entry, from where the word is to be written
+abbrev entry : tie.After-write-bytes-arg → tie.Start
+entry c = c .before .before .before .before
+
+-- the line has room
+room : (c : tie.After-write-bytes-arg) → let a = entry c .args in a .at + (length (now (a .word)) + (length (spaced (map decimal (now (a .numbers)))) + 1)) ≤ length (now (a .out))
+room c = let a = entry c .args in omega (arith, line-long (now (a .word)) (spaced (map decimal (now (a .numbers)))), entry c .pre .1)
+
 write-bytes-requires : tie.Need-write-bytes-requires
-write-bytes-requires c κs =
-    let start = c .before .before .before .before in
-    omega (arith, line-long (start .args .word .now) (spaced (map decimal (start .args .numbers .now))), start .pre .1)
+write-bytes-requires c κs = omega (arith, room c)
 
 write-numbers-requires : tie.Need-write-numbers-requires
-write-numbers-requires c κs =
-    let start = c .before .before .before .before .before .before .before .before in
-    let all = line-long (start .args .word .now) (spaced (map decimal (start .args .numbers .now))) in
-    let word = c .before .before .before .write-bytes .ensures in
-    let long = stored-long (omega (arith, all, start .pre .1)) word in
-    (start .pre .0, omega (arith, all, long, word .after, start .pre .1))
+write-numbers-requires c κs = let begun = c .before .before .before .before in (entry begun .pre .0, omega (arith, room begun))
 
 write-byte-requires : tie.Need-write-byte-requires
-write-byte-requires c κs =
-    let start = c .before .before .before .before .before .before .before .before .before .before .before .before in
-    let all = line-long (start .args .word .now) (spaced (map decimal (start .args .numbers .now))) in
-    let word = c .before .before .before .before .before .before .before .write-bytes .ensures in
-    let long = stored-long (omega (arith, all, start .pre .1)) word in
-    let numbers = c .before .before .before .write-numbers .ensures in
-    let longer = stored-long (omega (arith, all, long, word .after, start .pre .1)) numbers in
-    omega (arith, all, long, longer, word .after, numbers .after, start .pre .1)
+write-byte-requires c κs = let begun = c .before .before .before .before .before .before .before .before in omega (arith, room begun)
 
 same-length : tie.Need-same-length
 same-length c = search needs
 
 returns : tie.Need-returns
 returns c =
-    let start = c .before .before .before .before .before .before .before .before .before .before .before .before .before .before .before in
-    let all = line-long (start .args .word .now) (spaced (map decimal (start .args .numbers .now))) in
-    let word = c .before .before .before .before .before .before .before .before .before .before .write-bytes .ensures in
-    let long = stored-long (omega (arith, all, start .pre .1)) word in
-    let numbers = c .before .before .before .before .before .before .write-numbers .ensures in
-    stored-then (omega (arith, length-append (spaced (map decimal (start .args .numbers .now))) (10 ∷ []), all, start .pre .1)) word (stored-then (omega (arith, all, long, word .after, start .pre .1)) numbers (c .before .before .write-byte .ensures))
+    let numbers = c .before .before .before .before .before .before in
+    let word = numbers .before .before .before .before in
+    let all = length-append (spaced (map decimal (now (entry (word .before) .args .numbers)))) (10 ∷ []) in
+    stored-then (omega (arith, all, room (word .before))) (word .write-bytes .ensures) (stored-then (omega (arith, room (word .before))) (numbers .write-numbers .ensures) (c .before .before .write-byte .ensures))
 
 pub write-line-spec : {M : Type 1} → statement M
 write-line-spec =

@@ -1,16 +1,33 @@
 -- `lines::writing::write_rounds` meets its contract: the words and the numbers one after the other.
 use borrow.Author.Needs.{needs}
 use native.Mathlib.Omega.{arith}
-use Prim.Native.Nat.{_+_}
+use Prim.Native.Nat.{_+_, _≤_}
 use mathlib.Core.Path.{sym}
 use mathlib.Core.List.{[], _∷_, _++_}
-use lib.ListN.{length-append}
+use lib.ListN.{length, length-append}
+use denote.Ref.{now}
 use Rattle.lines.specs.Decimal.{decimal}
 use Rattle.lines.specs.Lines.{text, spaced}
-use Rattle.lines.proofs.WriteLaws.{stored-then, stored-long}
+use Rattle.lines.proofs.WriteLaws.{stored-then}
 use Rattle.lines.proofs.LineLaws.{one-few, rounds-parts}
 use Rattle.lines.proofs.writing.write_rounds.Statement.{statement}
 use Rattle.lines.proofs.writing.write_rounds.Tie as tie
+
+-- the function's entry, from where the first word is written; and each part, from where the next is
+abbrev entry : tie.After-write-bytes → tie.Start
+entry c = c .before .before .before .before
+
+abbrev word : tie.After-write-numbers → tie.After-write-bytes
+word c = c .before .before .before .before .before
+
+abbrev first : tie.After-write-bytes2 → tie.After-write-numbers
+first c = c .before .before .before .before .before
+
+abbrev other : tie.After-write-numbers2 → tie.After-write-bytes2
+other c = c .before .before .before .before .before
+
+few : (c : tie.Start) → (length (spaced (decimal (c .args .rounds) ∷ [])) ≤ 21) × (length (spaced (decimal (c .args .facts) ∷ [])) ≤ 21) × (64 ≤ length (now (c .args .out)))
+few c = (one-few 19 _ (omega arith), one-few 19 _ (omega arith), c .pre)
 
 slice-aggregate-write-bytes : tie.Need-slice-aggregate-write-bytes
 slice-aggregate-write-bytes c = search needs
@@ -22,58 +39,22 @@ slice-aggregate-write-numbers : tie.Need-slice-aggregate-write-numbers
 slice-aggregate-write-numbers c = search needs
 
 write-numbers-requires : tie.Need-write-numbers-requires
-write-numbers-requires c κs =
-    let start = c .before .before .before .before .before .before .before .before in
-    let one = one-few 19 (start .args .rounds) (omega arith) in
-    let two = one-few 19 (start .args .facts) (omega arith) in
-    let word = c .before .before .before .before .write-bytes .ensures in
-    let long₁ = stored-long (omega (arith, start .pre)) word in
-    (omega arith, omega (arith, start .pre, one, long₁, word .after))
+write-numbers-requires c κs = let begun = c .before .before .before .before in (omega arith, omega (arith, few (entry begun)))
 
 slice-aggregate-write-bytes-2 : tie.Need-slice-aggregate-write-bytes-2
 slice-aggregate-write-bytes-2 c = search needs
 
 write-bytes-requires-2 : tie.Need-write-bytes-requires-2
-write-bytes-requires-2 c κs =
-    let start = c .before .before .before .before .before .before .before .before .before .before .before .before .before in
-    let one = one-few 19 (start .args .rounds) (omega arith) in
-    let two = one-few 19 (start .args .facts) (omega arith) in
-    let word = c .before .before .before .before .before .before .before .before .before .write-bytes .ensures in
-    let long₁ = stored-long (omega (arith, start .pre)) word in
-    let first = c .before .before .before .before .write-numbers .ensures in
-    let long₂ = stored-long (omega (arith, start .pre, one, long₁, word .after)) first in
-    omega (arith, start .pre, one, long₁, long₂, word .after, first .after)
+write-bytes-requires-2 c κs = let rounds = c .before .before .before .before in omega (arith, few (entry (word rounds)))
 
 slice-aggregate-write-numbers-2 : tie.Need-slice-aggregate-write-numbers-2
 slice-aggregate-write-numbers-2 c = search needs
 
 write-numbers-requires-2 : tie.Need-write-numbers-requires-2
-write-numbers-requires-2 c κs =
-    let start = c .before .before .before .before .before .before .before .before .before .before .before .before .before .before .before .before .before .before in
-    let one = one-few 19 (start .args .rounds) (omega arith) in
-    let two = one-few 19 (start .args .facts) (omega arith) in
-    let word = c .before .before .before .before .before .before .before .before .before .before .before .before .before .before .write-bytes .ensures in
-    let long₁ = stored-long (omega (arith, start .pre)) word in
-    let first = c .before .before .before .before .before .before .before .before .before .write-numbers .ensures in
-    let long₂ = stored-long (omega (arith, start .pre, one, long₁, word .after)) first in
-    let other = c .before .before .before .before .write-bytes2 .ensures in
-    let long₃ = stored-long (omega (arith, start .pre, one, long₁, long₂, word .after, first .after)) other in
-    (omega arith, omega (arith, start .pre, one, two, long₁, long₂, long₃, word .after, first .after, other .after))
+write-numbers-requires-2 c κs = let between = c .before .before .before .before in (omega arith, omega (arith, few (entry (word (first between)))))
 
 write-byte-requires : tie.Need-write-byte-requires
-write-byte-requires c κs =
-    let start = c .before .before .before .before .before .before .before .before .before .before .before .before .before .before .before .before .before .before .before .before .before .before in
-    let one = one-few 19 (start .args .rounds) (omega arith) in
-    let two = one-few 19 (start .args .facts) (omega arith) in
-    let word = c .before .before .before .before .before .before .before .before .before .before .before .before .before .before .before .before .before .before .write-bytes .ensures in
-    let long₁ = stored-long (omega (arith, start .pre)) word in
-    let first = c .before .before .before .before .before .before .before .before .before .before .before .before .before .write-numbers .ensures in
-    let long₂ = stored-long (omega (arith, start .pre, one, long₁, word .after)) first in
-    let other = c .before .before .before .before .before .before .before .before .write-bytes2 .ensures in
-    let long₃ = stored-long (omega (arith, start .pre, one, long₁, long₂, word .after, first .after)) other in
-    let second = c .before .before .before .write-numbers2 .ensures in
-    let long₄ = stored-long (omega (arith, start .pre, one, two, long₁, long₂, long₃, word .after, first .after, other .after)) second in
-    omega (arith, start .pre, one, two, long₁, long₂, long₃, long₄, word .after, first .after, other .after, second .after)
+write-byte-requires c κs = omega (arith, few (entry (word (first (other (c .before .before .before))))))
 
 same-length : tie.Need-same-length
 same-length c = search needs
@@ -81,21 +62,17 @@ same-length c = search needs
 returns : tie.Need-returns
 unfolding text
 returns c =
-    let start = c .before .before .before .before .before .before .before .before .before .before .before .before .before .before .before .before .before .before .before .before .before .before .before .before .before in
-    let one = one-few 19 (start .args .rounds) (omega arith) in
-    let two = one-few 19 (start .args .facts) (omega arith) in
-    let word = c .before .before .before .before .before .before .before .before .before .before .before .before .before .before .before .before .before .before .before .before .before .write-bytes .ensures in
-    let long₁ = stored-long (omega (arith, start .pre)) word in
-    let first = c .before .before .before .before .before .before .before .before .before .before .before .before .before .before .before .before .write-numbers .ensures in
-    let long₂ = stored-long (omega (arith, start .pre, one, long₁, word .after)) first in
-    let other = c .before .before .before .before .before .before .before .before .before .before .before .write-bytes2 .ensures in
-    let long₃ = stored-long (omega (arith, start .pre, one, long₁, long₂, word .after, first .after)) other in
-    let second = c .before .before .before .before .before .before .write-numbers2 .ensures in
-    let long₄ = stored-long (omega (arith, start .pre, one, two, long₁, long₂, long₃, word .after, first .after, other .after)) second in
-    let last = stored-then (omega (arith, start .pre, one, two, long₁, long₂, long₃, word .after, first .after, other .after)) second (c .before .before .write-byte .ensures) in
-    let rest = stored-then (omega (arith, start .pre, one, two, long₁, long₂, word .after, first .after, length-append (spaced (decimal (start .args .facts) ∷ [])) (10 ∷ []))) other last in
-    let more = stored-then (omega (arith, start .pre, one, two, long₁, word .after, length-append (spaced (decimal (start .args .facts) ∷ [])) (10 ∷ []))) first rest in
-    rw (sym (rounds-parts (start .args .rounds) (start .args .facts))) (stored-then (omega (arith, start .pre, one, two, length-append (spaced (decimal (start .args .rounds) ∷ [])) (text " facts" ++ (spaced (decimal (start .args .facts) ∷ []) ++ (10 ∷ []))), length-append (spaced (decimal (start .args .facts) ∷ [])) (10 ∷ []))) word more)
+    let facts = c .before .before .before .before .before .before in
+    let between = other facts in
+    let rounds = first between in
+    let begun = word rounds in
+    let a = entry begun .args in
+    let sizes = few (entry begun) in
+    let end = length-append (spaced (decimal (a .facts) ∷ [])) (10 ∷ []) in
+    let last = stored-then (omega (arith, sizes)) (facts .write-numbers2 .ensures) (c .before .before .write-byte .ensures) in
+    let more = stored-then (omega (arith, sizes, end)) (rounds .write-numbers .ensures) (stored-then (omega (arith, sizes, end)) (between .write-bytes2 .ensures) last) in
+    let all = length-append (spaced (decimal (a .rounds) ∷ [])) (text " facts" ++ (spaced (decimal (a .facts) ∷ []) ++ (10 ∷ []))) in
+    rw (sym (rounds-parts (a .rounds) (a .facts))) (stored-then (omega (arith, sizes, all, end)) (begun .write-bytes .ensures) more)
 
 pub write-rounds-spec : {M : Type 1} → statement M
 write-rounds-spec =

@@ -1,12 +1,30 @@
 -- `report::job::read_job` meets its contract: at each `return` the tests that led there say which case of `jobOf` holds.
 use borrow.Author.Needs.{needs}
-use Prim.Native.Nat.{_+_}
+use Prim.Native.Nat.{ℕ, _+_, _<_}
+use mathlib.Core.Path.{_≡_}
+use mathlib.Core.List.{List}
 use native.Mathlib.Omega.{arith}
 use denote.Ref.{now}
 use borrow.Author.Tests.{lt-ltb, le-ltb}
-use Rattle.report.specs.Job.{grammarCount, lineCount, jobOf}
+use Rattle.report.specs.Job.{grammarCount, questionsRead, jobOf}
+use Rattle.report.proofs.JobLaws.{jobAt}
 use Rattle.report.proofs.job.read_job.Statement.{statement}
 use Rattle.report.proofs.job.read_job.Tie as tie
+
+-- the function's input, from where the count of the line stands
+abbrev input : tie.After-shared-slice-known3 → List ℕ
+input c = now (c .before .before .before .before .before .before .args .input)
+
+-- no fault before the questions, whose count is a byte
+sound : (c : tie.Else4) → let b = input (c .before) in jobOf b ≡ questionsRead b (jobAt b)
+unfolding jobOf
+sound c =
+    let line = c .before .before in
+    let grammar = line .before .before .before in
+    simp (le-ltb _ _ (grammar .before .if1 .left), le-ltb _ _ (grammar .if2 .left), le-ltb _ _ (line .if3 .left), le-ltb _ _ (c .if4 .left))
+
+few : (c : tie.After-shared-slice-known4) → jobAt (input (c .before .before)) .questions < 256
+few c = let b = jobAt (input (c .before .before)) in omega (arith, c .shared-slice-known4 .given (3 + b .grammar + b .line))
 
 returns : tie.Need-returns
 unfolding jobOf
@@ -48,20 +66,20 @@ shared-slice-read-line : tie.Need-shared-slice-read-line
 shared-slice-read-line c = search needs
 
 cast-line : tie.Need-cast-line
-cast-line c = let input = now (c .before .before .before .before .before .before .args .input) in omega (arith, c .shared-slice-known3 .given (2 + grammarCount input))
+cast-line c = omega (arith, c .shared-slice-known3 .given (2 + grammarCount (input c)))
 
 add-if4 : tie.Need-add-if4
 add-if4 c = search needs
 
 add-if4-2 : tie.Need-add-if4-2
-add-if4-2 c = let input = now (c .before .before .before .before .before .before .args .input) in omega (arith, c .shared-slice-known3 .given (2 + grammarCount input))
+add-if4-2 c = omega (arith, c .shared-slice-known3 .given (2 + grammarCount (input c)))
 
 returns-4 : tie.Need-returns-4
 unfolding jobOf
 returns-4 c =
-    let e = c .before .before in
-    let d = e .before .before .before in
-    simp (le-ltb _ _ (d .before .if1 .left), le-ltb _ _ (d .if2 .left), le-ltb _ _ (e .if3 .left), lt-ltb _ _ (c .if4 .taken))
+    let line = c .before .before in
+    let grammar = line .before .before .before in
+    simp (le-ltb _ _ (grammar .before .if1 .left), le-ltb _ _ (grammar .if2 .left), le-ltb _ _ (line .if3 .left), lt-ltb _ _ (c .if4 .taken))
 
 add-questions : tie.Need-add-questions
 add-questions c = search needs
@@ -73,7 +91,7 @@ shared-slice-read-questions : tie.Need-shared-slice-read-questions
 shared-slice-read-questions c = search needs
 
 cast-questions : tie.Need-cast-questions
-cast-questions c = let input = now (c .before .before .before .before .before .before .before .before .args .input) in let grammar = grammarCount input in omega (arith, c .shared-slice-known4 .given (3 + grammar + lineCount input grammar))
+cast-questions c = omega (arith, few c)
 
 add-end : tie.Need-add-end
 add-end c = search needs
@@ -82,48 +100,19 @@ add-end-2 : tie.Need-add-end-2
 add-end-2 c = search needs
 
 mul-end : tie.Need-mul-end
-mul-end c = let input = now (c .before .before .before .before .before .before .before .before .args .input) in let grammar = grammarCount input in omega (arith, c .shared-slice-known4 .given (3 + grammar + lineCount input grammar))
+mul-end c = omega (arith, few c)
 
 add-end-3 : tie.Need-add-end-3
-add-end-3 c = let input = now (c .before .before .before .before .before .before .before .before .args .input) in let grammar = grammarCount input in omega (arith, c .shared-slice-known4 .given (3 + grammar + lineCount input grammar))
+add-end-3 c = omega (arith, few c)
 
 returns-5 : tie.Need-returns-5
-unfolding jobOf
-returns-5 c =
-    let f = c .before .before in
-    let e = f .before .before in
-    let d = e .before .before .before in
-    simp (le-ltb _ _ (d .before .if1 .left), le-ltb _ _ (d .if2 .left), le-ltb _ _ (e .if3 .left), le-ltb _ _ (f .if4 .left), lt-ltb _ _ (c .if5 .taken))
+returns-5 c = simp (sound (c .before .before), lt-ltb _ _ (c .if5 .taken))
 
 returns-6 : tie.Need-returns-6
-unfolding jobOf
-returns-6 c =
-    let f = c .before .before .before in
-    let e = f .before .before in
-    let d = e .before .before .before in
-    simp (
-      le-ltb _ _ (d .before .if1 .left),
-      le-ltb _ _ (d .if2 .left),
-      le-ltb _ _ (e .if3 .left),
-      le-ltb _ _ (f .if4 .left),
-      le-ltb _ _ (c .before .if5 .left),
-      lt-ltb _ _ (c .if6 .taken),
-    )
+returns-6 c = simp (sound (c .before .before .before), le-ltb _ _ (c .before .if5 .left), lt-ltb _ _ (c .if6 .taken))
 
 returns-7 : tie.Need-returns-7
-unfolding jobOf
-returns-7 c =
-    let f = c .before .before .before in
-    let e = f .before .before in
-    let d = e .before .before .before in
-    simp (
-      le-ltb _ _ (d .before .if1 .left),
-      le-ltb _ _ (d .if2 .left),
-      le-ltb _ _ (e .if3 .left),
-      le-ltb _ _ (f .if4 .left),
-      le-ltb _ _ (c .before .if5 .left),
-      le-ltb _ _ (c .if6 .left),
-    )
+returns-7 c = simp (sound (c .before .before .before), le-ltb _ _ (c .before .if5 .left), le-ltb _ _ (c .if6 .left))
 
 pub read-job-spec : {M : Type 1} → statement M
 read-job-spec =

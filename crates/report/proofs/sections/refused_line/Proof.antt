@@ -21,10 +21,7 @@ slice-aggregate-write-line-2 : tie.Need-slice-aggregate-write-line-2
 slice-aggregate-write-line-2 c = search needs
 
 write-line-requires : tie.Need-write-line-requires
-write-line-requires c κs =
-    let row = c .before .before .before .before .row-of .result in
-    let fits = c .before .before .before .struct-known .given in
-    (omega arith, omega (arith, two-few 19 (row .number) (row .place) (omega (arith, fits)) (omega (arith, fits)), c .before .before .before .before .before .before .pre))
+write-line-requires c κs = let row = c .before .before .before .before .row-of .result in (omega arith, omega (arith, two-few 19 (row .number) (row .place) (omega arith) (omega arith)))
 
 same-length : tie.Need-same-length
 same-length c = search needs
@@ -32,11 +29,9 @@ same-length c = search needs
 returns : tie.Need-returns
 unfolding refusedLine numbered lineOf text
 returns c =
-    let row = c .before .before .before .before .before .before .before .row-of .result in
-    let fits = c .before .before .before .before .before .before .struct-known .given in
-    let few = two-few 19 (row .number) (row .place) (omega (arith, fits)) (omega (arith, fits)) in
-    let line = c .before .before .write-line .ensures in
-    (rw (sym (c .before .before .before .before .before .before .before .row-of .ensures)) line, omega (arith, few, line .after))
+    let known = c .before .before .before .before .before .before .before .row-of in
+    let few = two-few 19 (known .result .number) (known .result .place) (omega arith) (omega arith) in
+    (rw (sym (known .ensures)) (c .before .before .write-line .ensures), omega (arith, few))
 
 pub refused-line-spec : {M : Type 1} → statement M
 refused-line-spec =

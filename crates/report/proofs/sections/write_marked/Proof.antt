@@ -10,6 +10,10 @@ use Rattle.report.proofs.AnswerLaws.{ready-short, marks-answered}
 use Rattle.report.proofs.sections.write_marked.Statement.{statement}
 use Rattle.report.proofs.sections.write_marked.Tie as tie
 
+-- the function's entry, from where the marks are asked for
+abbrev entry : tie.After-marks → tie.Start
+entry c = c .before .before .before .before .before .before .before
+
 slice-aggregate-marks : tie.Need-slice-aggregate-marks
 slice-aggregate-marks c = search needs
 
@@ -27,11 +31,10 @@ slice-aggregate-write-marks c = search needs
 
 write-marks-requires : tie.Need-write-marks-requires
 write-marks-requires c κs =
-    let start = c .before .before .before .before .before .before .before .before .before .before .before .before in
-    let passes = checked-accepted _ _ _ _ _ (start .pre .0 .0) (start .pre .0 .1) in
-    let marked = marks-answered passes (length-replicate {A = ℕ} 512 0) (length-replicate {A = ℕ} 16384 0) (length-replicate {A = ℕ} 63 0) (c .before .before .before .before .before .marks .ensures) in
-    let short = ready-short passes in
-    (omega (arith, short, marked .1), omega (arith, short, start .pre .1), marked .2)
+    let asked = c .before .before .before .before .before in
+    let passes = checked-accepted _ _ _ _ _ _ (entry asked .pre .0 .1) in
+    let marked = marks-answered passes (length-replicate {A = ℕ} 512 0) (length-replicate {A = ℕ} 16384 0) (length-replicate {A = ℕ} 63 0) (asked .marks .ensures) in
+    (omega (arith, ready-short passes, marked .1), omega (arith, ready-short passes, entry asked .pre .1), marked .2)
 
 same-length : tie.Need-same-length
 same-length c = search needs
@@ -39,9 +42,9 @@ same-length c = search needs
 returns : tie.Need-returns
 unfolding marksLine
 returns c =
-    let start = c .before .before .before .before .before .before .before .before .before .before .before .before .before .before .before in
-    let passes = checked-accepted _ _ _ _ _ (start .pre .0 .0) (start .pre .0 .1) in
-    let marked = marks-answered passes (length-replicate {A = ℕ} 512 0) (length-replicate {A = ℕ} 16384 0) (length-replicate {A = ℕ} 63 0) (c .before .before .before .before .before .before .before .before .marks .ensures) in
+    let asked = c .before .before .before .before .before .before .before .before in
+    let passes = checked-accepted _ _ _ _ _ _ (entry asked .pre .0 .1) in
+    let marked = marks-answered passes (length-replicate {A = ℕ} 512 0) (length-replicate {A = ℕ} 16384 0) (length-replicate {A = ℕ} 63 0) (asked .marks .ensures) in
     rw (sym (marked .0)) (c .before .before .write-marks .ensures)
 
 pub write-marked-spec : {M : Type 1} → statement M

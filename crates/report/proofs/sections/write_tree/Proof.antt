@@ -1,18 +1,30 @@
 -- `report::sections::write_tree` meets its contract: the question's line, and then its nodes or the refusal.
 use borrow.Author.Needs.{needs}
 use native.Mathlib.Omega.{arith}
-use Prim.Native.Nat.{ℕ}
+use Prim.Native.Nat.{_≤_}
 use mathlib.Core.Path.{sym}
-use mathlib.Core.List.{append-nil, flatten}
-use lib.ListN.{length-replicate}
-use Rattle.lines.specs.Lines.{text, lineOf, numbered}
-use Rattle.lines.proofs.WriteLaws.{stored-long, stored-then}
+use mathlib.Core.List.{[], _∷_, _++_, append-nil, flatten}
+use lib.ListN.{length}
+use denote.Ref.{now}
+use Rattle.lines.specs.Decimal.{decimal}
+use Rattle.lines.specs.Lines.{text, spaced, lineOf, numbered}
+use Rattle.lines.proofs.WriteLaws.{stored-then}
 use Rattle.lines.proofs.LineLaws.{three-few}
 use Rattle.report.specs.Printed.{lentWords, lentDepths, lentTree, treeLines}
 use Rattle.report.proofs.NodeLaws.{nodes-printed}
 use Rattle.report.proofs.AnswerLaws.{tree-refused, tree-shown}
 use Rattle.report.proofs.sections.write_tree.Statement.{statement}
 use Rattle.report.proofs.sections.write_tree.Tie as tie
+
+-- the function's entry, from where the question is laid out; and the question's line, which is short, from where the tree is asked for
+abbrev entry : tie.After-question → tie.Start
+entry c = c .before .before .before .before .before .before
+
+few : (c : tie.After-question) → let a = entry c .args in (length (spaced (decimal (a .category) ∷ decimal (a .start) ∷ decimal (a .end) ∷ []) ++ (10 ∷ [])) ≤ 13) × (475200 ≤ length (now (a .out)))
+few c = (three-few 2 _ _ _ (omega arith) (omega arith) (omega arith), entry c .pre)
+
+abbrev written : tie.After-tree → tie.After-write-line
+written c = c .before .before .before .before .before .before
 
 slice-aggregate-write-line : tie.Need-slice-aggregate-write-line
 slice-aggregate-write-line c = search needs
@@ -21,10 +33,7 @@ slice-aggregate-write-line-2 : tie.Need-slice-aggregate-write-line-2
 slice-aggregate-write-line-2 c = search needs
 
 write-line-requires : tie.Need-write-line-requires
-write-line-requires c κs =
-    let start = c .before .before .before .before .before .before in
-    let few = three-few 2 (start .args .category) (start .args .start) (start .args .end) (omega arith) (omega arith) (omega arith) in
-    (omega arith, omega (arith, few, start .pre))
+write-line-requires c κs = (omega arith, omega (arith, few c))
 
 slice-aggregate-tree : tie.Need-slice-aggregate-tree
 slice-aggregate-tree c = search needs
@@ -42,12 +51,7 @@ enum-known-refusal : tie.Need-enum-known-refusal
 enum-known-refusal c = search needs
 
 refused-line-requires : tie.Need-refused-line-requires
-refused-line-requires c κs =
-    let start = c .before .before .before .before .before .before .before .before .before .before .before .before .before .before .before .before .before .before .before .before in
-    let few = three-few 2 (start .args .category) (start .args .start) (start .args .end) (omega arith) (omega arith) (omega arith) in
-    let line = c .before .before .before .before .before .before .before .before .before .before .before .before .before .write-line .ensures in
-    let long = stored-long (omega (arith, few, start .pre)) line in
-    omega (arith, few, long, line .after, start .pre)
+refused-line-requires c κs = let asked = c .before .before .before .before .before .before .before in omega (arith, few (written asked .before))
 
 enum-known-count : tie.Need-enum-known-count
 enum-known-count c = search needs
@@ -57,13 +61,9 @@ slice-aggregate-write-nodes c = search needs
 
 write-nodes-requires : tie.Need-write-nodes-requires
 write-nodes-requires c κs =
-    let start = c .before .before .before .before .before .before .before .before .before .before .before .before .before .before .before .before .before .before .before .before .before in
-    let few = three-few 2 (start .args .category) (start .args .start) (start .args .end) (omega arith) (omega arith) (omega arith) in
-    let line = c .before .before .before .before .before .before .before .before .before .before .before .before .before .before .write-line .ensures in
-    let long = stored-long (omega (arith, few, start .pre)) line in
-    let shows = tree-shown _ _ _ _ _ _ _ _ (rw (c .before .before .before .count .given .1) at (c .before .before .before .before .before .before .before .before .tree .ensures)) in
-    let room = length-replicate {A = ℕ} 4096 0 in
-    (omega (arith, shows .room, shows .long), omega (arith, few, long, line .after, start .pre, shows .room, room))
+    let asked = c .before .before .before .before .before .before .before .before in
+    let shows = tree-shown _ _ _ _ _ _ _ _ (rw (c .before .before .before .count .given .1) at (asked .tree .ensures)) in
+    (omega (arith, shows .room), omega (arith, few (written asked .before), shows .room))
 
 same-length : tie.Need-same-length
 same-length c = search needs
@@ -71,12 +71,12 @@ same-length c = search needs
 returns : tie.Need-returns
 unfolding treeLines flatten lentWords lentDepths lentTree numbered lineOf text
 returns c =
-    let start = c .before .before .before .before .before .before .before .before .before .before .before .before .before .before .before .before .before .before .before .before .before .before .before in
-    let few = three-few 2 (start .args .category) (start .args .start) (start .args .end) (omega arith) (omega arith) (omega arith) in
-    let line = c .before .before .before .before .before .before .before .before .before .before .before .before .before .before .before .before .write-line .ensures in
+    let told = c .before .before .before .before .before in
+    let asked = told .before .before .before .before .before in
+    let line = written asked in
     let refusal = c .before .before .refused-line .ensures in
-    let refused = tree-refused _ _ _ _ _ _ _ _ (rw (c .before .before .before .before .before .refusal .given .1) at (c .before .before .before .before .before .before .before .before .before .before .tree .ensures)) in
-    rw (refused, append-nil) (stored-then (omega (arith, few, line .after, refusal .0 .after, refusal .1, start .pre)) line (refusal .0))
+    let refused = tree-refused _ _ _ _ _ _ _ _ (rw (told .refusal .given .1) at (asked .tree .ensures)) in
+    rw (refused, append-nil) (stored-then (omega (arith, few (line .before))) (line .write-line .ensures) (refusal .0))
 
 same-length-2 : tie.Need-same-length-2
 same-length-2 c = search needs
@@ -84,14 +84,12 @@ same-length-2 c = search needs
 returns-2 : tie.Need-returns-2
 unfolding treeLines flatten lentWords lentDepths lentTree numbered lineOf text
 returns-2 c =
-    let start = c .before .before .before .before .before .before .before .before .before .before .before .before .before .before .before .before .before .before .before .before .before .before .before .before in
-    let few = three-few 2 (start .args .category) (start .args .start) (start .args .end) (omega arith) (omega arith) (omega arith) in
-    let line = c .before .before .before .before .before .before .before .before .before .before .before .before .before .before .before .before .before .write-line .ensures in
+    let told = c .before .before .before .before .before .before in
+    let asked = told .before .before .before .before .before in
+    let line = written asked in
     let nodes = c .before .before .write-nodes .ensures in
-    let shows = tree-shown _ _ _ _ _ _ _ _ (rw (c .before .before .before .before .before .before .count .given .1) at (c .before .before .before .before .before .before .before .before .before .before .before .tree .ensures)) in
-    let room = length-replicate {A = ℕ} 4096 0 in
-    let printed = nodes-printed _ _ (shows .nodes) (shows .begins) in
-    rw (shows .passed, sym printed) (stored-then (omega (arith, few, line .after, nodes .0 .after, nodes .1, start .pre, shows .room, room)) line (nodes .0))
+    let shows = tree-shown _ _ _ _ _ _ _ _ (rw (told .count .given .1) at (asked .tree .ensures)) in
+    rw (shows .passed, sym (nodes-printed _ _ (shows .nodes) (shows .begins))) (stored-then (omega (arith, few (line .before), shows .room)) (line .write-line .ensures) (nodes .0))
 
 pub write-tree-spec : {M : Type 1} → statement M
 write-tree-spec =
