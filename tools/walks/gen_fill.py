@@ -113,9 +113,9 @@ use denote.Triple.Walked.{{says, needs, Stays, stay-none, stay-none-slice, stay-
 use denote.Exit.{{yes}}
 use Rattle.{crate}.specs.declared.Branch.{{Branch}}
 use Rattle.{crate}.specs.declared.Cursor.{{Cursor}}
-use Rattle.{crate}.specs.Charted.{{Charted}}
-use Rattle.{crate}.specs.Cursor.{{Stood, Follows}}
-use Rattle.{crate}.specs.Writing.{{writtenFrom, Writes}}
+use Rattle.{crate}.specs.inner.Charted.{{Charted}}
+use Rattle.{crate}.specs.inner.Cursor.{{Stood, Follows}}
+use Rattle.{crate}.specs.inner.Writing.{{writtenFrom, Writes}}
 use {cp}.WriteLaws.{{laid, laid-is, length-laid, Reached, enough, reached-first, reached-record, reached-next}}
 use {cp}.Cursor as K
 use {cp}.Cursor.Laws as K′

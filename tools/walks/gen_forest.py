@@ -48,8 +48,8 @@ use denote.Exit.{{yes}}
 use Rattle.{CR}.specs.declared.Branch.{{Branch}}
 use Rattle.{CR}.specs.declared.Plan.{{Plan}}
 use Rattle.{CR}.specs.declared.Cursor.{{Cursor}}
-use Rattle.{CR}.specs.Planned.{{Planned}}
-use Rattle.{CR}.specs.Writing.{{writtenFrom, Writes}}
+use Rattle.{CR}.specs.inner.Planned.{{Planned}}
+use Rattle.{CR}.specs.inner.Writing.{{writtenFrom, Writes}}
 use {cp}.OutcomeLaws.{{plan-fits, plan-writes, plan-outcome}}
 use {cp}.Again.{{LentAgain, lends-again, comes-back}}
 use {cp}.Shared.{{LentShared, lends-shared, shared-back}}

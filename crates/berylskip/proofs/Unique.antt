@@ -3,11 +3,11 @@ use Prim.Native.Nat.{ℕ}
 use mathlib.Core.Path.{_≡_, sym, ap, _∙_}
 use mathlib.Core.List.{List}
 use Rattle.refusals.specs.Told.{Told}
-use Rattle.chart.proofs.Unique.{chart-unique, ends-unique}
+use Rattle.chart.proofs.Unique.{chart-outcome-unique, ends-outcome-unique}
 use Rattle.marks.proofs.Unique.{marks-outcome-unique}
-use Rattle.tree.proofs.Unique.{tree-unique}
+use Rattle.tree.proofs.Unique.{tree-outcome-unique}
 use Rattle.forest.specs.declared.Branch.{Branch}
-use Rattle.forest.proofs.Unique.{forest-unique}
+use Rattle.forest.proofs.Unique.{forest-outcome-unique}
 use Rattle.berylskip.specs.Exported.{Numbers, handed, Exported}
 use Rattle.berylskip.specs.Questions.{ChartExported, EndsExported, MarksExported, TreeExported, ForestExported}
 
@@ -23,14 +23,14 @@ module _ (g line words depths values : List ℕ) (place : ℕ) {w d w′ d′ : 
       ChartExported g line words depths values place w d x → ChartExported g line words depths values place w′ d′ y →
       (x ≡ y) × (w ≡ w′) × (d ≡ d′)
   chart-exported-unique e f =
-      let u = chart-unique g line words depths (e .outcome) (f .outcome) in
+      let u = chart-outcome-unique g line words depths (e .outcome) (f .outcome) in
       (same-numbers e f (u .0), u .1, u .2)
 
   pub ends-exported-unique : (A i : ℕ) →
       EndsExported g line A i words depths values place w d x → EndsExported g line A i words depths values place w′ d′ y →
       (x ≡ y) × (w ≡ w′) × (d ≡ d′)
   ends-exported-unique A i e f =
-      let u = ends-unique g line words depths A i (e .outcome) (f .outcome) in
+      let u = ends-outcome-unique g line words depths A i (e .outcome) (f .outcome) in
       (same-numbers e f (u .0), u .1, u .2)
 
   pub marks-exported-unique : (marks : List ℕ) {m m′ : List ℕ} →
@@ -44,12 +44,12 @@ module _ (g line words depths values : List ℕ) (place : ℕ) {w d w′ d′ : 
       TreeExported g line A i j words depths out values place w d o x → TreeExported g line A i j words depths out values place w′ d′ o′ y →
       (x ≡ y) × (w ≡ w′) × (d ≡ d′) × (o ≡ o′)
   tree-exported-unique A i j out e f =
-      let u = tree-unique (e .outcome) (f .outcome) in
+      let u = tree-outcome-unique (e .outcome) (f .outcome) in
       (same-numbers e f (u .0), u .1, u .2, u .3)
 
   pub forest-exported-unique : (rows : List Branch) {r r′ : List Branch} →
       ForestExported g line words depths rows values place w d r x → ForestExported g line words depths rows values place w′ d′ r′ y →
       (x ≡ y) × (w ≡ w′) × (d ≡ d′) × (r ≡ r′)
   forest-exported-unique rows e f =
-      let u = forest-unique g line words depths rows (e .outcome) (f .outcome) in
+      let u = forest-outcome-unique g line words depths rows (e .outcome) (f .outcome) in
       (same-numbers e f (u .0), u .1, u .2, u .3)

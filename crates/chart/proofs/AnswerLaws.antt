@@ -16,10 +16,10 @@ use Rattle.positions.proofs.Digits.{digit-above}
 use Rattle.positions.proofs.Members.{same-members}
 use Rattle.derivation.specs.Grammar.{Grammar, Proper}
 use Rattle.derivation.specs.Fact.{Fact}
-use Rattle.derivation.specs.Listing.{listed}
-use Rattle.derivation.specs.Facts.{facts}
-use Rattle.derivation.specs.FactCount.{factCount}
-use Rattle.derivation.specs.RoundsOf.{roundsOf}
+use Rattle.derivation.specs.computed.Listing.{listed}
+use Rattle.derivation.specs.computed.Facts.{facts}
+use Rattle.derivation.specs.computed.FactCount.{factCount}
+use Rattle.derivation.specs.computed.RoundsOf.{roundsOf}
 use Rattle.derivation.proofs.Table.{at-listed}
 use Rattle.derivation.proofs.Facts.{fact-count}
 use Rattle.derivation.proofs.RoundsOf.{rounds-are}

@@ -11,13 +11,13 @@ use Rattle.refusals.specs.declared.Check.{Check}
 use Rattle.refusals.specs.declared.Check.the-variants as check
 use Rattle.refusals.specs.Order.{early}
 use Rattle.derivation.specs.Grammar.{Grammar}
-use Rattle.derivation.specs.RoundsOf.{roundsOf}
+use Rattle.derivation.specs.computed.RoundsOf.{roundsOf}
 use Rattle.derivation.proofs.RoundsOf.{rounds-fit}
 use Rattle.checks.specs.declared.Asked.{Asked}
 use Rattle.checks.specs.Line.{IsLine, lineCheck}
 use Rattle.checks.specs.Question.{askedCheck}
 use Rattle.checks.specs.Memory.{chartSize, depthsSize, workCheck}
-use Rattle.checks.specs.Rest.{restCheck}
+use Rattle.checks.specs.inner.Rest.{restCheck}
 use Rattle.checks.proofs.Laws.{both-passed, refused-before, passed-before, line-passed, work-passed}
 use Rattle.grammar.specs.declared.reading.Sections.{Sections}
 use Rattle.grammar.specs.declared.reading.Reading.{Reading}
@@ -27,7 +27,7 @@ use Rattle.grammar.specs.Value.{Sectioned, grammarOf}
 use Rattle.grammar.specs.Given.{grammarGiven}
 use Rattle.grammar.proofs.Accepted.{accepted, whole}
 use Rattle.grammar.proofs.Encoded.{sections-proper, category-count}
-use Rattle.chart.specs.Checked.{acceptedIf, checkedOf}
+use Rattle.chart.specs.inner.Checked.{acceptedIf, checkedOf}
 use Rattle.chart.specs.Checks.{checksOn, checksOf, depthCheck}
 
 -- sections are handed on exactly where the check passes

@@ -13,8 +13,8 @@ use Rattle.positions.specs.Count.{countBelow}
 use Rattle.positions.proofs.Members.{no-digit}
 use Rattle.derivation.specs.Grammar.{Grammar, Proper}
 use Rattle.derivation.specs.Fact.{Fact}
-use Rattle.derivation.specs.Facts.{facts}
-use Rattle.derivation.specs.FactCount.{total, factCount}
+use Rattle.derivation.specs.computed.Facts.{facts}
+use Rattle.derivation.specs.computed.FactCount.{total, factCount}
 use Rattle.derivation.proofs.Within.{tree-inside}
 use Rattle.derivation.proofs.Totals.{total-past, total-rows, total-same}
 use Rattle.derivation.proofs.Facts.{facts-exact}

@@ -12,13 +12,13 @@ use Rattle.positions.specs.First.{First}
 use Rattle.positions.proofs.Unique.{first-unique}
 use Rattle.derivation.specs.Grammar.{Proper}
 use Rattle.derivation.specs.Depth.{Depth, deep}
-use Rattle.derivation.specs.Search.{some}
-use Rattle.derivation.specs.Listing.{listed}
-use Rattle.derivation.specs.Round.{tokenIs, child, children, round}
-use Rattle.derivation.specs.Table.{table, isFound, grade, depths, depthOf}
-use Rattle.derivation.specs.RoundsOf.{greatest, roundsOf}
-use Rattle.derivation.specs.Facts.{facts}
-use Rattle.derivation.specs.FactCount.{total, factCount}
+use Rattle.derivation.specs.computed.Search.{some}
+use Rattle.derivation.specs.computed.Listing.{listed}
+use Rattle.derivation.specs.computed.Round.{tokenIs, child, children, round}
+use Rattle.derivation.specs.computed.Table.{table, isFound, grade, depths, depthOf}
+use Rattle.derivation.specs.computed.RoundsOf.{greatest, roundsOf}
+use Rattle.derivation.specs.computed.Facts.{facts}
+use Rattle.derivation.specs.computed.FactCount.{total, factCount}
 use Rattle.derivation.proofs.Table.{depthOf-is, depthIs-unique, depthIs-depth}
 use Rattle.checks.specs.declared.Asked.the-variants.{Nothing, Start}
 use Rattle.checks.specs.Line.{tokensFrom, lineCheck}
@@ -35,7 +35,7 @@ use Rattle.chart.specs.declared.EndsAnswer.{EndsAnswer}
 use Rattle.chart.specs.declared.EndsAnswer.the-variants as ends
 use Rattle.chart.specs.ChartOutcome.{ChartOutcome}
 use Rattle.chart.specs.EndsOutcome.{EndsOutcome}
-use Rattle.chart.specs.Job.{jobBytes, jobGrammar, jobLine, JobMemory}
+use Rattle.chart.specs.inner.Job.{jobBytes, jobGrammar, jobLine, JobMemory}
 use Rattle.chart.proofs.CheckLaws.{Passes}
 use Rattle.chart.proofs.AnswerLaws.{row-is, chart-answered, ends-answered}
 

@@ -9,8 +9,8 @@ use Rattle.refusals.specs.Order.{early}
 use Rattle.refusals.specs.Told as told
 use Rattle.positions.specs.Count.{countBelow}
 use Rattle.positions.specs.First.{First}
-use Rattle.derivation.specs.FactCount.{total}
-use Rattle.derivation.specs.FactList.{factList}
+use Rattle.derivation.specs.computed.FactCount.{total}
+use Rattle.derivation.specs.computed.Facts.{factList}
 use Rattle.derivation.proofs.Facts.{length-factList, factList-is}
 use Rattle.checks.specs.declared.Asked.the-variants.{Nothing, Start}
 use Rattle.checks.specs.Memory.{chartSize}

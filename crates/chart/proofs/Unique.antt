@@ -32,24 +32,24 @@ ends-told (ends.Row x y z) e = cc
 ends-told (ends.Refused refusal) e = cc
 
 module _ (g line words depths : List ℕ) where
-  pub chart-unique : {a b : ChartAnswer} {w d x e : List ℕ} →
+  pub chart-outcome-unique : {a b : ChartAnswer} {w d x e : List ℕ} →
       ChartOutcome g line words depths a w d → ChartOutcome g line words depths b x e → (a ≡ b) × (w ≡ x) × (d ≡ e)
-  chart-unique (turnedDown p a w d) (turnedDown q b x e) = (a ∙ ap chart.Refused (one-refusal p q) ∙ sym b, w ∙ sym x, d ∙ sym e)
-  chart-unique (turnedDown p a w d) (filled q t′ r f y) = absurd (not-both p q)
-  chart-unique (filled p t r f y) (turnedDown q b x e) = absurd (not-both q p)
-  chart-unique {a} {b} (filled p t r f y) (filled q t′ r′ f′ y′) =
+  chart-outcome-unique (turnedDown p a w d) (turnedDown q b x e) = (a ∙ ap chart.Refused (one-refusal p q) ∙ sym b, w ∙ sym x, d ∙ sym e)
+  chart-outcome-unique (turnedDown p a w d) (filled q t′ r f y) = absurd (not-both p q)
+  chart-outcome-unique (filled p t r f y) (turnedDown q b x e) = absurd (not-both q p)
+  chart-outcome-unique {a} {b} (filled p t r f y) (filled q t′ r′ f′ y′) =
       let memory = filled-unique (grammarGiven g) line words depths y y′ in
       let rounds = rounds-unique r r′ in
       let facts = ap length (facts-unique f f′) in
       (chart-told a t ∙ rw (rounds, facts) (sym (chart-told b t′)), memory .0, memory .1)
 
-  pub ends-unique : (A i : ℕ) {a b : EndsAnswer} {w d x e : List ℕ} →
+  pub ends-outcome-unique : (A i : ℕ) {a b : EndsAnswer} {w d x e : List ℕ} →
       EndsOutcome g line A i words depths a w d → EndsOutcome g line A i words depths b x e → (a ≡ b) × (w ≡ x) × (d ≡ e)
-  ends-unique A i (ends-outcome.turnedDown p a w d) (ends-outcome.turnedDown q b x e) =
+  ends-outcome-unique A i (ends-outcome.turnedDown p a w d) (ends-outcome.turnedDown q b x e) =
       (a ∙ ap ends.Refused (one-refusal p q) ∙ sym b, w ∙ sym x, d ∙ sym e)
-  ends-unique A i (ends-outcome.turnedDown p a w d) (found q t′ m c f y) = absurd (not-both p q)
-  ends-unique A i (found p t m c f y) (ends-outcome.turnedDown q b x e) = absurd (not-both q p)
-  ends-unique A i {a} {b} (found p t m c f y) (found q t′ m′ c′ f′ y′) =
+  ends-outcome-unique A i (ends-outcome.turnedDown p a w d) (found q t′ m c f y) = absurd (not-both p q)
+  ends-outcome-unique A i (found p t m c f y) (ends-outcome.turnedDown q b x e) = absurd (not-both q p)
+  ends-outcome-unique A i {a} {b} (found p t m c f y) (found q t′ m′ c′ f′ y′) =
       let memory = filled-unique (grammarGiven g) line words depths y y′ in
       let row = same-members _ _ (λ j. (λ h. m′ j .1 (m j .0 h), λ h. m j .1 (m′ j .0 h))) in
       let count = c ∙ ap (countBelow 64) row ∙ sym c′ in

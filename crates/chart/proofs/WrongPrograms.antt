@@ -5,13 +5,13 @@ use mathlib.Core.List.{List, []}
 use native.Mathlib.Omega.{arith}
 use lib.ListN.{getD}
 use Rattle.refusals.specs.declared.Refusal.{Refusal}
-use Rattle.filling.specs.Holds.{Holds}
+use Rattle.filling.specs.inner.Holds.{HoldsAfter}
 use Rattle.chart.specs.declared.ChartAnswer.{ChartAnswer}
 use Rattle.chart.specs.declared.ChartAnswer.the-variants as chart
 use Rattle.chart.specs.declared.EndsAnswer.the-variants as ends
 use Rattle.chart.specs.ChartOutcome.{ChartOutcome}
 use Rattle.chart.specs.EndsOutcome.{EndsOutcome}
-use Rattle.chart.specs.Job.{jobBytes, jobGrammar, jobLine, JobMemory}
+use Rattle.chart.specs.inner.Job.{jobBytes, jobGrammar, jobLine, JobMemory}
 use Rattle.chart.proofs.JobLaws.{job-deep, job-filled, job-outcome, empty-outcome, job-ends}
 
 module _ {words depths : List ℕ} (memory : JobMemory words depths) where
@@ -38,7 +38,7 @@ module _ {words depths : List ℕ} (memory : JobMemory words depths) where
   writes-nothing clear o = omega (arith, job-outcome memory o .1)
 
   -- it works in the first round and idles after it: its chart shows what one round finds
-  pub idles-after-first-round : {answer : ChartAnswer} {words′ depths′ : List ℕ} → Holds jobGrammar jobLine 1 words′ → ChartOutcome jobBytes jobLine words depths answer words′ depths′ → ⊥
+  pub idles-after-first-round : {answer : ChartAnswer} {words′ depths′ : List ℕ} → HoldsAfter jobGrammar jobLine 1 words′ → ChartOutcome jobBytes jobLine words depths answer words′ depths′ → ⊥
   unfolding jobGrammar jobLine
   idles-after-first-round holds o =
       let shown = job-filled memory o .word 0 1 (omega arith) (omega arith) 6 .1 (job-deep .tree) in

@@ -8,7 +8,7 @@ use Rattle.refusals.specs.declared.Check.{Check}
 use Rattle.refusals.specs.declared.Check.the-variants.{Passed}
 use Rattle.refusals.specs.Order.{Checks}
 use Rattle.derivation.specs.Grammar.{Grammar}
-use Rattle.derivation.specs.RoundsOf.{roundsOf}
+use Rattle.derivation.specs.computed.RoundsOf.{roundsOf}
 use Rattle.checks.specs.declared.Asked.{Asked}
 use Rattle.checks.specs.declared.Asked.the-variants.{Nothing, Start}
 use Rattle.checks.specs.Line.{lineCheck}

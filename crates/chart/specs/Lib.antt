@@ -1,6 +1,5 @@
 pub mod Checks
-pub mod Checked
 pub mod Told
 pub mod ChartOutcome
 pub mod EndsOutcome
-pub mod Job
+pub mod inner

@@ -1,4 +1,4 @@
 pub mod Line
 pub mod Question
 pub mod Memory
-pub mod Rest
+pub mod inner

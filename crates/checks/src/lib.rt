@@ -4,7 +4,7 @@ ghost use Prim.Native.Nat.{_≤_};
 ghost use Rattle.checks.specs.Line.{lineCheck};
 ghost use Rattle.checks.specs.Question.{startCheck, spanCheck, askedCheck};
 ghost use Rattle.checks.specs.Memory.{chartCheck, depthsCheck, workCheck};
-ghost use Rattle.checks.specs.Rest.{restCheck};
+ghost use Rattle.checks.specs.inner.Rest.{restCheck};
 use refusals::Check;
 use refusals::Refusal;
 

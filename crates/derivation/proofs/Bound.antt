@@ -10,8 +10,8 @@ use lib.ListN.{length}
 use Rattle.derivation.specs.Bound.{depthBound}
 use Rattle.derivation.specs.Grammar.{Grammar, Proper}
 use Rattle.derivation.specs.Tree.{Tree, node, height}
-use Rattle.derivation.specs.Within.{Within}
-use Rattle.derivation.specs.Round.{round, within}
+use Rattle.derivation.specs.inner.Within.{Within}
+use Rattle.derivation.specs.computed.Round.{round, within}
 use Rattle.derivation.proofs.Within.{tree-inside, tree-known, within-sound}
 use Rattle.derivation.proofs.Depth.{within-grows}
 use Rattle.derivation.proofs.Pigeonhole.{settles}

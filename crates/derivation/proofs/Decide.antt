@@ -11,7 +11,7 @@ use Rattle.derivation.specs.Grammar.{Grammar, Proper}
 use Rattle.derivation.specs.Tree.{Tree, height}
 use Rattle.derivation.specs.Fact.{Fact}
 use Rattle.derivation.specs.Depth.{Depth}
-use Rattle.derivation.specs.Round.{within}
+use Rattle.derivation.specs.computed.Round.{within}
 use Rattle.derivation.proofs.Within.{tree-inside, within-sound, within-complete}
 use Rattle.derivation.proofs.Bound.{bound}
 

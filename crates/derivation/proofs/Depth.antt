@@ -7,7 +7,7 @@ use native.Mathlib.Nat.{le-trans}
 use native.Mathlib.Omega.{arith}
 use Rattle.derivation.specs.Grammar.{Grammar}
 use Rattle.derivation.specs.Depth.{Depth}
-use Rattle.derivation.specs.Round.{within}
+use Rattle.derivation.specs.computed.Round.{within}
 use Rattle.derivation.proofs.Within.{within-sound, within-complete}
 
 pub depth-unique : {g : Grammar} {w : List ℕ} {A i j d e : ℕ} → Depth g w A i j d → Depth g w A i j e → d ≡ e

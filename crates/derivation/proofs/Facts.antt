@@ -9,11 +9,12 @@ use native.Mathlib.Omega.{arith}
 use lib.ListN.{length, length-append}
 use Rattle.derivation.specs.Grammar.{Grammar, Proper}
 use Rattle.derivation.specs.Fact.{Fact}
-use Rattle.derivation.specs.Listing.{listed, gathered, kept}
-use Rattle.derivation.specs.Table.{depthOf}
-use Rattle.derivation.specs.Facts.{facts}
-use Rattle.derivation.specs.FactList.{Span, spanNumbers, FactsAre, factList}
-use Rattle.derivation.specs.FactCount.{total, factCount}
+use Rattle.derivation.specs.computed.Listing.{listed, gathered, kept}
+use Rattle.derivation.specs.computed.Table.{depthOf}
+use Rattle.derivation.specs.computed.Facts.{facts}
+use Rattle.derivation.specs.FactList.{Span, spanNumbers, FactsAre}
+use Rattle.derivation.specs.computed.Facts.{factList}
+use Rattle.derivation.specs.computed.FactCount.{total, factCount}
 use Rattle.derivation.proofs.Within.{tree-inside}
 use Rattle.derivation.proofs.Bound.{tree-category}
 use Rattle.derivation.proofs.Table.{depthOf-is}

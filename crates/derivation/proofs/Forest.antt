@@ -12,11 +12,11 @@ use Rattle.derivation.specs.Bound.{roundsBound}
 use Rattle.derivation.specs.Grammar.{Grammar, Proper, ruleAt}
 use Rattle.derivation.specs.Tree.{Tree, Child, Children, token, category, stop, then}
 use Rattle.derivation.specs.Fact.{Fact}
-use Rattle.derivation.specs.Within.{Within, ChildWithin, ChildrenWithin}
-use Rattle.derivation.specs.Round.{Known, child, children, within}
-use Rattle.derivation.specs.Facts.{facts}
-use Rattle.derivation.specs.Branch.{Branch, IsBranch, ForestIs, numbers}
-use Rattle.derivation.specs.Forest.{isBranch, passing, forest}
+use Rattle.derivation.specs.inner.Within.{Within, ChildWithin, ChildrenWithin}
+use Rattle.derivation.specs.computed.Round.{Known, child, children, within}
+use Rattle.derivation.specs.computed.Facts.{facts}
+use Rattle.derivation.specs.Branch.{BranchValue, IsBranch, ForestIs, branchNumbers}
+use Rattle.derivation.specs.computed.Forest.{isBranch, passing, forest}
 use Rattle.derivation.proofs.Tests.{and-parts, and-both, same-test}
 use Rattle.derivation.proofs.Within.{within-sound, within-complete, child-inside, children-inside, child-iff, children-iff}
 use Rattle.derivation.proofs.Decide.{depth-exists, rounds-bound}
@@ -52,7 +52,7 @@ module _ (g : Grammar) (w : List ℕ) (proper : Proper g) where
     pub children-exact : (s : List ℕ) (i j : ℕ) → (children w known s i j ≡ true) ↔ Children g w s i j
     children-exact s i j = rw known-within (λ e. children-iff g w (roundsBound g w) s i j .0 e .children, λ b. children-iff g w (roundsBound g w) s i j .1 (children-low b))
 
-    pub isBranch-exact : (b : Branch) → (isBranch g w known b ≡ true) ↔ IsBranch g w b
+    pub isBranch-exact : (b : BranchValue) → (isBranch g w known b ≡ true) ↔ IsBranch g w b
     unfolding isBranch
     isBranch-exact b = (sound, complete)
       where
@@ -83,8 +83,8 @@ module _ (g : Grammar) (w : List ℕ) (proper : Proper g) where
             }
 
 -- all that pass a test and stand in the ranges, and those only, ascending
-module _ (g : Grammar) (w : List ℕ) (test : Branch → Bool) where
-  passing-run : Run numbers [] (passing g w test)
+module _ (g : Grammar) (w : List ℕ) (test : BranchValue → Bool) where
+  passing-run : Run branchNumbers [] (passing g w test)
   unfolding passing
   passing-run =
       run-gathered [] _ (λ p.
@@ -94,7 +94,7 @@ module _ (g : Grammar) (w : List ℕ) (test : Branch → Bool) where
       run-gathered (p ∷ d ∷ i ∷ m ∷ []) _ (λ j.
       run-kept test (record { rule = p; place = d; start = i; middle = m; end = j })) _) _) _) _) _
 
-  passing-test : {b : Branch} → List·Memᴰ b (passing g w test) → test b ≡ true
+  passing-test : {b : BranchValue} → List·Memᴰ b (passing g w test) → test b ≡ true
   unfolding passing
   passing-test x =
       let p = gathered-member _ _ x in
@@ -106,7 +106,7 @@ module _ (g : Grammar) (w : List ℕ) (test : Branch → Bool) where
       rw (k .0) (k .1)
 
   member-passing :
-      (b : Branch) → b .rule < length (g .rules) → b .place ≤ length (ruleAt g (b .rule) .right) → b .start ≤ length w → b .middle ≤ length w → b .end ≤ length w →
+      (b : BranchValue) → b .rule < length (g .rules) → b .place ≤ length (ruleAt g (b .rule) .right) → b .start ≤ length w → b .middle ≤ length w → b .end ≤ length w →
       test b ≡ true → List·Memᴰ b (passing g w test)
   unfolding passing
   member-passing b p d i m j e =
@@ -118,7 +118,7 @@ module _ (g : Grammar) (w : List ℕ) (test : Branch → Bool) where
       (member-kept test b e)))))
 
 -- at the first place, m = i
-pub branch-one : {g : Grammar} {w : List ℕ} {b : Branch} → IsBranch g w b → b .place ≡ 1 → b .middle ≡ b .start
+pub branch-one : {g : Grammar} {w : List ℕ} {b : BranchValue} → IsBranch g w b → b .place ≡ 1 → b .middle ≡ b .start
 branch-one {g} {w} r e = go (rw e at (r .before))
   where
     go : {i m : ℕ} → Children g w [] i m → m ≡ i
@@ -126,21 +126,21 @@ branch-one {g} {w} r e = go (rw e at (r .before))
 
 module _ {g : Grammar} {w : List ℕ} where
   -- the test decides what is a record
-  pub isBranch-iff : Proper g → (b : Branch) → (isBranch g w (facts g w) b ≡ true) ↔ IsBranch g w b
+  pub isBranch-iff : Proper g → (b : BranchValue) → (isBranch g w (facts g w) b ≡ true) ↔ IsBranch g w b
   isBranch-iff proper = isBranch-exact g w proper (facts g w) (facts-exact g w proper)
 
   pub forest-is : Proper g → ForestIs g w (forest g w)
   unfolding forest
   forest-is proper = record { each = λ b. (λ m. isBranch-iff proper b .0 (passing-test g w test m), complete b); ascending = passing-run g w test .ascending }
     where
-      test : Branch → Bool
+      test : BranchValue → Bool
       test = isBranch g w (facts g w)
 
-      complete : (b : Branch) → IsBranch g w b → List·Memᴰ b (passing g w test)
+      complete : (b : BranchValue) → IsBranch g w b → List·Memᴰ b (passing g w test)
       complete b r =
           let a = children-inside (r .before) in
           let c = child-inside (r .symbol) in
           member-passing g w test b (r .below) (r .last) (le-trans (a .rises) (a .ends)) (a .ends) (c .ends) (isBranch-iff proper b .1 r)
 
-  pub forest-unique : {l l′ : List Branch} → ForestIs g w l → ForestIs g w l′ → l ≡ l′
+  pub forest-unique : {l l′ : List BranchValue} → ForestIs g w l → ForestIs g w l′ → l ≡ l′
   forest-unique {l} {l′} f h = ascending-unique l l′ (f .ascending) (h .ascending) (λ b. (λ m. h .each b .1 (f .each b .0 m), λ m. f .each b .1 (h .each b .0 m)))

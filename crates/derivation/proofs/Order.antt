@@ -7,7 +7,7 @@ use mathlib.Core.List.{List, [], _∷_, _++_, flatten, append-assoc, append-nil,
 use native.Mathlib.Nat.{le-refl, lt-irrefl, lt-trans, not-suc-le-zero, le-of-suc-le-suc, add-zero, add-suc, suc-add, zero-add}
 use native.Mathlib.Omega.{arith}
 use Rattle.derivation.specs.Ascending.{Before, Ascending}
-use Rattle.derivation.specs.Listing.{listed, gathered, kept}
+use Rattle.derivation.specs.computed.Listing.{listed, gathered, kept}
 
 lex-trans : {s t u : List ℕ} → Lexᴰ _<_ s t → Lexᴰ _<_ t u → Lexᴰ _<_ s u
 lex-trans Lexᴰ·nil (Lexᴰ·rel q) = Lexᴰ·nil

@@ -9,7 +9,7 @@ use lib.ListN.{length, getD, take}
 use lib.Seq.{take-suc}
 use Rattle.derivation.specs.Grammar.{Grammar, IsRule}
 use Rattle.derivation.specs.Tree.{Tree, Child, Children, node, token, category, stop, then, height, childHeight, childrenHeight}
-use Rattle.derivation.specs.Within.{Within, ChildWithin, ChildrenWithin}
+use Rattle.derivation.specs.inner.Within.{Within, ChildWithin, ChildrenWithin}
 use Rattle.derivation.proofs.Within.{child-inside, children-inside}
 
 module _ {g : Grammar} {w : List ℕ} {h : ℕ} where

@@ -10,7 +10,7 @@ use Rattle.derivation.specs.Bound.{roundsBound}
 use Rattle.derivation.specs.Grammar.{Grammar, Proper}
 use Rattle.derivation.specs.Depth.{Depth}
 use Rattle.derivation.specs.Rounds.{RoundsIs}
-use Rattle.derivation.specs.Round.{within}
+use Rattle.derivation.specs.computed.Round.{within}
 use Rattle.derivation.proofs.Within.{within-sound}
 use Rattle.derivation.proofs.Bound.{stable}
 use Rattle.derivation.proofs.Decide.{rounds-bound}

@@ -10,8 +10,8 @@ use lib.ListN.{length}
 use Rattle.derivation.specs.Grammar.{Grammar, Proper}
 use Rattle.derivation.specs.Depth.{Depth, DepthIs, noFact, deep}
 use Rattle.derivation.specs.Rounds.{RoundsIs}
-use Rattle.derivation.specs.Table.{depthOf}
-use Rattle.derivation.specs.RoundsOf.{greatest, roundsOf}
+use Rattle.derivation.specs.computed.Table.{depthOf}
+use Rattle.derivation.specs.computed.RoundsOf.{greatest, roundsOf}
 use Rattle.derivation.proofs.Within.{tree-inside}
 use Rattle.derivation.proofs.Bound.{tree-category}
 use Rattle.derivation.proofs.Table.{depthOf-is, depthOf-depth}

@@ -13,9 +13,9 @@ use Rattle.derivation.specs.Grammar.{Grammar, Proper}
 use Rattle.derivation.specs.Fact.{Fact}
 use Rattle.derivation.specs.Depth.{DepthIs, noFact, deep}
 use Rattle.derivation.specs.Secret.{Secret, byClass, byFact}
-use Rattle.derivation.specs.Search.{some}
-use Rattle.derivation.specs.Table.{isFound, depthOf}
-use Rattle.derivation.specs.Marks.{covered, secret}
+use Rattle.derivation.specs.computed.Search.{some}
+use Rattle.derivation.specs.computed.Table.{isFound, depthOf}
+use Rattle.derivation.specs.computed.Marks.{covered, secret}
 use Rattle.derivation.proofs.Tests.{and-parts, and-both, or-cases, or-left, or-right, some-found, some-here}
 use Rattle.derivation.proofs.Within.{tree-inside}
 use Rattle.derivation.proofs.Bound.{tree-category}

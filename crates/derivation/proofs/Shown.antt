@@ -12,12 +12,12 @@ use borrow.Author.Tests.{eqb-true, leb-true, eq-eqb, lt-ltb, le-ltb}
 use Rattle.derivation.specs.Grammar.{Grammar, Proper, IsRule, ruleAt}
 use Rattle.derivation.specs.Tree.{Tree, Child, Children, node, token, category, stop, then, height, childHeight}
 use Rattle.derivation.specs.Depth.{Depth}
-use Rattle.derivation.specs.Within.{ChildWithin, ChildrenWithin}
-use Rattle.derivation.specs.Node.{Node, tokenNode, ruleNode, preorder, childPreorder, childrenPreorder}
-use Rattle.derivation.specs.Search.{firstFrom}
-use Rattle.derivation.specs.Round.{child, children, round, within}
-use Rattle.derivation.specs.Table.{depthOf}
-use Rattle.derivation.specs.Shown.{below, chosenRule, chosenEnd, chosenRow, chosen, shown}
+use Rattle.derivation.specs.inner.Within.{ChildWithin, ChildrenWithin}
+use Rattle.derivation.specs.Node.{NodeValue, tokenNode, ruleNode, preorder, childPreorder, childrenPreorder}
+use Rattle.derivation.specs.computed.Search.{firstFrom}
+use Rattle.derivation.specs.computed.Round.{child, children, round, within}
+use Rattle.derivation.specs.computed.Table.{depthOf}
+use Rattle.derivation.specs.computed.Shown.{below, chosenRule, chosenEnd, chosenRow, chosen, shown}
 use Rattle.derivation.specs.Choice.{ChildServes, tokenServes, categoryServes, Serves, noneServes, nextServes, RuleServes, NotAfter, ended, before, level, Choice, childEnds, Chosen, ChosenChild, ChosenChildren}
 use Rattle.derivation.proofs.Tests.{and-parts, and-both, some-found}
 use Rattle.derivation.proofs.Within.{within-complete, child-iff, children-iff}
@@ -52,17 +52,17 @@ pub first-below : (test : ℕ → Bool) (n m : ℕ) → m < n → test m ≡ tru
 first-below test n m h e = first-is test n 0 m zero-le (omega arith) e
 
 -- what is shown of (A, i, j), of a symbol and of symbols is the nodes of a tree with the choice at every node
-record Shows (g : Grammar) (w : List ℕ) (A i j : ℕ) (nodes : List Node) : Type 0 where
+record Shows (g : Grammar) (w : List ℕ) (A i j : ℕ) (nodes : List NodeValue) : Type 0 where
   tree : Tree g w A i j
   chosen : Chosen tree
   same : nodes ≡ preorder tree
 
-record ShowsChild (g : Grammar) (w : List ℕ) (c i j : ℕ) (nodes : List Node) : Type 0 where
+record ShowsChild (g : Grammar) (w : List ℕ) (c i j : ℕ) (nodes : List NodeValue) : Type 0 where
   child : Child g w c i j
   chosen : ChosenChild child
   same : nodes ≡ childPreorder child
 
-record ShowsRow (g : Grammar) (w : List ℕ) (h : ℕ) (s : List ℕ) (i j : ℕ) (nodes : List Node) : Type 0 where
+record ShowsRow (g : Grammar) (w : List ℕ) (h : ℕ) (s : List ℕ) (i j : ℕ) (nodes : List NodeValue) : Type 0 where
   row : Children g w s i j
   serves : Serves g w h s i (childEnds row) j
   first : (others : List ℕ) → Serves g w h s i others j → NotAfter (childEnds row) others
@@ -134,7 +134,7 @@ module _ (g : Grammar) (w : List ℕ) (proper : Proper g) where
       simp (below-within h) (r, lt-of-le-of-lt (r .least (f .0) zero-le (f .2)) (f .1))
 
   -- `sub` shows the categories of depth at most h
-  module _ (sub : ℕ → ℕ → ℕ → List Node) (h : ℕ) (shows : (A i j d : ℕ) → Depth g w A i j d → d ≤ h → Shows g w A i j (sub A i j)) where
+  module _ (sub : ℕ → ℕ → ℕ → List NodeValue) (h : ℕ) (shows : (A i j d : ℕ) → Depth g w A i j d → d ≤ h → Shows g w A i j (sub A i j)) where
     show-child : {c i j : ℕ} → ChildServes g w (suc h) c i j → ShowsChild g w c i j (cond (ltb c 128) (tokenNode c i j ∷ []) (sub (c - 128) i j))
     unfolding preorder Chosen
     show-child {c} (tokenServes k f e) = record { child = token k f e; chosen = tt; same = rw (lt-ltb c 128 k) }
@@ -182,7 +182,7 @@ module _ (g : Grammar) (w : List ℕ) (proper : Proper g) where
           lowest = λ {q} v. f .0 .least q zero-le (rule-passes g w h v);
           first = λ {others} v. r .first others (rule-symbols is v);
         } in
-        record { tree = node n is (r .row); chosen = (suc h, choice, r .chosen); same = ap (λ (ns : List Node). ruleNode n i j ∷ ns) (r .same) }
+        record { tree = node n is (r .row); chosen = (suc h, choice, r .chosen); same = ap (λ (ns : List NodeValue). ruleNode n i j ∷ ns) (r .same) }
 
   show-chosen : (k A i j d : ℕ) → Depth g w A i j d → d ≤ k → Shows g w A i j (chosen g w (depthOf g w) k A i j)
   unfolding chosen

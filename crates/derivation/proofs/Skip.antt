@@ -7,7 +7,7 @@ use native.Mathlib.Omega.{arith}
 use lib.ListN.{length, getD}
 use Rattle.derivation.specs.Grammar.{Grammar, Among}
 use Rattle.derivation.specs.Tree.{Child, Children, token, category, stop, childHeight}
-use Rattle.derivation.specs.Within.{Within, ChildWithin, ChildrenWithin}
+use Rattle.derivation.specs.inner.Within.{Within, ChildWithin, ChildrenWithin}
 use Rattle.derivation.proofs.Table.{height-pos}
 use Rattle.derivation.proofs.Prefix.{empty-within, then-within, within-then, token-within, category-within, within-category}
 

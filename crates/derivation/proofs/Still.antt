@@ -9,9 +9,9 @@ use Rattle.derivation.specs.Grammar.{Grammar, Proper}
 use Rattle.derivation.specs.Tree.{Tree, height}
 use Rattle.derivation.specs.Depth.{Depth, DepthIs}
 use Rattle.derivation.specs.Rounds.{RoundsIs}
-use Rattle.derivation.specs.Within.{Within}
-use Rattle.derivation.specs.Round.{within}
-use Rattle.derivation.specs.Table.{DepthAfter, notYet, found}
+use Rattle.derivation.specs.inner.Within.{Within}
+use Rattle.derivation.specs.computed.Round.{within}
+use Rattle.derivation.specs.computed.Table.{DepthAfter, notYet, found}
 use Rattle.derivation.proofs.Within.{within-iff}
 use Rattle.derivation.proofs.Bound.{stable}
 use Rattle.derivation.proofs.Decide.{depth-of-round}

@@ -14,9 +14,9 @@ use Rattle.derivation.specs.Grammar.{Grammar, Proper}
 use Rattle.derivation.specs.Tree.{Tree, node, height}
 use Rattle.derivation.specs.Fact.{Fact}
 use Rattle.derivation.specs.Depth.{Depth, DepthIs, noFact, deep}
-use Rattle.derivation.specs.Listing.{listed}
-use Rattle.derivation.specs.Round.{Known, round, within}
-use Rattle.derivation.specs.Table.{DepthAfter, notYet, found, Table, entry, table, isFound, seen, grade, depths, depthOf}
+use Rattle.derivation.specs.computed.Listing.{listed}
+use Rattle.derivation.specs.computed.Round.{Known, round, within}
+use Rattle.derivation.specs.computed.Table.{DepthAfter, notYet, found, Table, entry, table, isFound, seen, grade, depths, depthOf}
 use Rattle.derivation.proofs.Within.{tree-inside, within-complete}
 use Rattle.derivation.proofs.Depth.{depth-unique}
 use Rattle.derivation.proofs.Bound.{tree-category}

@@ -4,7 +4,7 @@ use mathlib.Core.Path.{_≡_, refl, sym, ap, ap₂, _∙_}
 use native.Mathlib.Nat.{le-refl, le-step, le-add-right, add-zero, add-suc, add-assoc, zero-mul, suc-mul}
 use native.Mathlib.Numerals.{add-one}
 use native.Mathlib.Omega.{arith}
-use Rattle.derivation.specs.FactCount.{total}
+use Rattle.derivation.specs.computed.FactCount.{total}
 
 module _ (f : ℕ → ℕ) where
   pub total-none : total f 0 ≡ 0

@@ -11,8 +11,8 @@ use lib.Dec.{eqb, ltb, leb}
 use borrow.Author.Tests.{ltb-true, leb-true, eqb-true, lt-ltb, le-leb, eq-eqb}
 use Rattle.derivation.specs.Grammar.{Grammar, IsRule, ruleAt}
 use Rattle.derivation.specs.Tree.{Tree, Child, Children, node, token, category, stop, then, height, childHeight, childrenHeight}
-use Rattle.derivation.specs.Within.{Within, ChildWithin, ChildrenWithin}
-use Rattle.derivation.specs.Round.{Known, tokenIs, child, children, round, within}
+use Rattle.derivation.specs.inner.Within.{Within, ChildWithin, ChildrenWithin}
+use Rattle.derivation.specs.computed.Round.{Known, tokenIs, child, children, round, within}
 use Rattle.derivation.proofs.Tests.{and-parts, and-both, or-cases, or-left, or-right, some-found, some-here}
 
 -- i..j is a stretch of the line w

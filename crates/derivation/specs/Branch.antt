@@ -8,7 +8,7 @@ use Rattle.derivation.specs.Tree.{Child, Children}
 use Rattle.derivation.specs.Ascending.{Ascending}
 
 -- the document's (p, d, i, m, j)
-pub record Branch : Type 0 where
+pub record BranchValue : Type 0 where
   pub rule : ℕ
   pub place : ℕ
   pub start : ℕ
@@ -16,7 +16,7 @@ pub record Branch : Type 0 where
   pub end : ℕ
 
 -- b is a record: d is from 1 to rule p's length, the first d - 1 symbols derive i..m and symbol d derives m..j
-pub record IsBranch (g : Grammar) (w : List ℕ) (b : Branch) : Type 0 where
+pub record IsBranch (g : Grammar) (w : List ℕ) (b : BranchValue) : Type 0 where
   pub below : b .rule < length (g .rules)
   pub first : 1 ≤ b .place
   pub last : b .place ≤ length (ruleAt g (b .rule) .right)
@@ -24,10 +24,10 @@ pub record IsBranch (g : Grammar) (w : List ℕ) (b : Branch) : Type 0 where
   pub symbol : Child g w (getD (ruleAt g (b .rule) .right) (b .place - 1) 0) (b .middle) (b .end)
 
 -- p, d, i, m, j
-abbrev pub numbers : Branch → List ℕ
-numbers b = b .rule ∷ b .place ∷ b .start ∷ b .middle ∷ b .end ∷ []
+abbrev pub branchNumbers : BranchValue → List ℕ
+branchNumbers b = b .rule ∷ b .place ∷ b .start ∷ b .middle ∷ b .end ∷ []
 
 -- l is the forest of the line w: its members are exactly the records, ascending by p, d, i, m, j
-pub record ForestIs (g : Grammar) (w : List ℕ) (l : List Branch) : Type 0 where
-  pub each : (b : Branch) → List·Memᴰ b l ↔ IsBranch g w b
-  pub ascending : Ascending numbers l
+pub record ForestIs (g : Grammar) (w : List ℕ) (l : List BranchValue) : Type 0 where
+  pub each : (b : BranchValue) → List·Memᴰ b l ↔ IsBranch g w b
+  pub ascending : Ascending branchNumbers l

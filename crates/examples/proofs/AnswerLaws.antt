@@ -15,14 +15,14 @@ use Rattle.refusals.specs.Told.{Told, answered, refused}
 use Rattle.positions.specs.Count.{countBelow}
 use Rattle.positions.proofs.Extremes.{first-trailing}
 use Rattle.derivation.specs.Grammar.{Grammar, Proper}
-use Rattle.derivation.specs.Node.{Node}
+use Rattle.derivation.specs.Node.{NodeValue}
 use Rattle.derivation.specs.Branch as derivation
-use Rattle.derivation.specs.RoundsOf.{roundsOf}
-use Rattle.derivation.specs.FactCount.{total, factCount}
-use Rattle.derivation.specs.FactList.{factList}
-use Rattle.derivation.specs.Marks as of-line
-use Rattle.derivation.specs.Shown.{shown}
-use Rattle.derivation.specs.Forest as records
+use Rattle.derivation.specs.computed.RoundsOf.{roundsOf}
+use Rattle.derivation.specs.computed.FactCount.{total, factCount}
+use Rattle.derivation.specs.computed.Facts.{factList}
+use Rattle.derivation.specs.computed.Marks as of-line
+use Rattle.derivation.specs.computed.Shown.{shown}
+use Rattle.derivation.specs.computed.Forest as records
 use Rattle.derivation.proofs.Tests.{and-parts}
 use Rattle.derivation.proofs.Totals.{total-same}
 use Rattle.derivation.proofs.Table.{at-listed}
@@ -55,22 +55,22 @@ use Rattle.tree.specs.Checks.{treeFact, treeRoom}
 use Rattle.tree.specs.Outcome as tree-outcome
 use Rattle.forest.specs.declared.ForestAnswer.the-variants as forest-answer
 use Rattle.forest.specs.Checks.{recordCount, roomCheck}
-use Rattle.forest.specs.Writing as writing
+use Rattle.forest.specs.Record.{recordOf}
 use Rattle.forest.specs.Outcome as forest-outcome
 use Rattle.examples.specs.Entry.{Graded, Question, chart, ends, marks, tree, forest, holding}
-use Rattle.examples.specs.Memory.{wordAt, written, Lent, wordsAfter, depthsAfter}
+use Rattle.examples.specs.Memory.{wordAt, overwritten, Lent, wordsAfter, depthsAfter}
 use Rattle.examples.specs.Claim.{OutcomeIs}
 use Rattle.examples.proofs.Test.{same, sameBy, sameTold, passes, workTest, treeTest, answerTest}
 use Rattle.examples.proofs.TestLaws.{same-is, same-by, node-one, branch-one, told-is, passes-is}
 use Rattle.examples.proofs.WorkLaws.{written-long, written-at, written-past, word-shows, work-filled}
 
 -- marks that are the computed ones, over any old contents
-marks-are : (G : Grammar) (line new row : List ℕ) → Proper G → new ≡ of-line.marks G line → length line ≤ length row → MarksAre G line row (written new row) (total (λ t. getD new t 0) (length line))
+marks-are : (G : Grammar) (line new row : List ℕ) → Proper G → new ≡ of-line.marks G line → length line ≤ length row → MarksAre G line row (overwritten new row) (total (λ t. getD new t 0) (length line))
 unfolding of-line.marks
 marks-are G line new row proper e room =
     let mark : ℕ → ℕ = λ t. cond (of-line.secret G line t) 1 0 in
     let long : length new ≡ length line = rw e (length-listed mark 0 (length line)) in
-    let at : (t : ℕ) → t < length line → getD (written new row) t 0 ≡ getD new t 0 = λ t l. written-at new row t (omega arith) in
+    let at : (t : ℕ) → t < length line → getD (overwritten new row) t 0 ≡ getD new t 0 = λ t l. written-at new row t (omega arith) in
     record {
       long = written-long new row (omega arith);
       mark = λ t l. rw (at t l, e, at-listed mark 0 (length line) t l) (mark-computed G line t proper);
@@ -141,11 +141,11 @@ module _ (g line : List ℕ) (read : readOf g ≡ Accepted (sectionsGiven g)) (i
       λ words depths row lent room. (
         marks-answer.Marked secret,
         sym (told-is told _ (p .1)),
-        marks-answered g line words depths row (sectionsGiven g) (first words depths lent Nothing refl) secret _ _ (written new row) (omega arith) (work words depths lent)
+        marks-answered g line words depths row (sectionsGiven g) (first words depths lent Nothing refl) secret _ _ (overwritten new row) (omega arith) (work words depths lent)
             (marks-are G line new row proper is (omega arith)),
       )
 
-  tree-holds : (A i j : ℕ) (nodes : List Node) (told : Told) → spanCheck (sectionsGiven g .categories) (length line) A i j ≡ check.Passed → (c : Check) → treeFact G line A i j ≡ c → treeTest g line A i j nodes told c ≡ true →
+  tree-holds : (A i j : ℕ) (nodes : List NodeValue) (told : Told) → spanCheck (sectionsGiven g .categories) (length line) A i j ≡ check.Passed → (c : Check) → treeFact G line A i j ≡ c → treeTest g line A i j nodes told c ≡ true →
       OutcomeIs g line (tree A i j nodes) told (holding facts)
   unfolding treeTest bytes
   tree-holds A i j nodes told question check.Passed fact t =
@@ -158,9 +158,9 @@ module _ (g line : List ℕ) (read : readOf g ≡ Accepted (sectionsGiven g)) (i
         sym (told-is told _ (p .1)),
         tree-outcome.shows
             (rw (early, fact, le-ltb (length row) (length (bytes (shown G line A i j))) fits))
-            (ap (λ (l : List Node). answered (length l ∷ [])) is)
+            (ap (λ (l : List NodeValue). answered (length l ∷ [])) is)
             (work words depths lent)
-            (ap (λ (l : List Node). written (bytes l) row) is),
+            (ap (λ (l : List NodeValue). overwritten (bytes l) row) is),
       )
   tree-holds A i j nodes told question (check.Refused refusal) fact t =
       let p = and-parts (sameBy nodeBytes nodes []) (sameTold told (refused (rowOf refusal))) t in
@@ -171,11 +171,11 @@ module _ (g line : List ℕ) (read : readOf g ≡ Accepted (sectionsGiven g)) (i
         tree-outcome.noTree {refusal = refusal} (passed words depths lent (Span A i j) (treeFact G line A i j) (treeRoom G line A i j row) question) (rw fact) refl (work words depths lent) (rw none),
       )
 
-  forest-holds : (branches : List derivation.Branch) (told : Told) → answerTest g line facts (forest branches) told ≡ true → OutcomeIs g line (forest branches) told (holding facts)
+  forest-holds : (branches : List derivation.BranchValue) (told : Told) → answerTest g line facts (forest branches) told ≡ true → OutcomeIs g line (forest branches) told (holding facts)
   unfolding answerTest
   forest-holds branches told t =
-      let p = and-parts (sameBy derivation.numbers branches (records.forest G line)) (sameTold told (answered (length branches ∷ []))) t in
-      let is = same-by derivation.numbers branch-one branches (records.forest G line) (p .0) in
+      let p = and-parts (sameBy derivation.branchNumbers branches (records.forest G line)) (sameTold told (answered (length branches ∷ []))) t in
+      let is = same-by derivation.branchNumbers branch-one branches (records.forest G line) (p .0) in
       λ words depths rows lent room.
       let early = passed words depths lent Nothing check.Passed (roomCheck G line (length rows)) refl in
       let fits : recordCount G line ≤ length rows = rw is at room in (
@@ -183,9 +183,9 @@ module _ (g line : List ℕ) (read : readOf g ≡ Accepted (sectionsGiven g)) (i
         sym (told-is told _ (p .1)),
         forest-outcome.answered
             (rw (early, le-ltb (length rows) (recordCount G line) fits))
-            (ap (λ (l : List derivation.Branch). answered (length l ∷ [])) is)
+            (ap (λ (l : List derivation.BranchValue). answered (length l ∷ [])) is)
             (work words depths lent)
-            (ap (λ (l : List derivation.Branch). written (map writing.written l) rows) is ∙ rw (length-map (records.forest G line) writing.written)),
+            (ap (λ (l : List derivation.BranchValue). overwritten (map recordOf l) rows) is ∙ rw (length-map (records.forest G line) recordOf)),
       )
 
   pub answer-holds : (question : Question) (told : Told) → answerTest g line facts question told ≡ true → OutcomeIs g line question told (holding facts)

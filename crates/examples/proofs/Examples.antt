@@ -7,17 +7,17 @@ use Rattle.positions.specs.Member.{digit}
 use Rattle.positions.specs.Count.{countBelow}
 use Rattle.derivation.specs.Bound.{depthBound}
 use Rattle.derivation.specs.Depth.{Depth}
-use Rattle.derivation.specs.Search.{some, firstFrom}
-use Rattle.derivation.specs.Listing.{listed, gathered, kept}
-use Rattle.derivation.specs.Round.{tokenIs, child, children, round}
-use Rattle.derivation.specs.Table as derivation
-use Rattle.derivation.specs.Table.{isFound, seen, grade, depths, depthOf}
-use Rattle.derivation.specs.RoundsOf.{greatest, roundsOf}
-use Rattle.derivation.specs.Facts.{facts}
-use Rattle.derivation.specs.FactCount.{total, factCount}
-use Rattle.derivation.specs.Marks.{covered, secret, marks}
-use Rattle.derivation.specs.Shown.{below, chosenRule, chosenEnd, chosenRow, chosen, shown}
-use Rattle.derivation.specs.Forest.{isBranch, passing, forest}
+use Rattle.derivation.specs.computed.Search.{some, firstFrom}
+use Rattle.derivation.specs.computed.Listing.{listed, gathered, kept}
+use Rattle.derivation.specs.computed.Round.{tokenIs, child, children, round}
+use Rattle.derivation.specs.computed.Table as derivation
+use Rattle.derivation.specs.computed.Table.{isFound, seen, grade, depths, depthOf}
+use Rattle.derivation.specs.computed.RoundsOf.{greatest, roundsOf}
+use Rattle.derivation.specs.computed.Facts.{facts}
+use Rattle.derivation.specs.computed.FactCount.{total, factCount}
+use Rattle.derivation.specs.computed.Marks.{covered, secret, marks}
+use Rattle.derivation.specs.computed.Shown.{below, chosenRule, chosenEnd, chosenRow, chosen, shown}
+use Rattle.derivation.specs.computed.Forest.{isBranch, passing, forest}
 use Rattle.derivation.proofs.Tests.{and-parts}
 use Rattle.derivation.proofs.Table.{depthOf-is, depthIs-depth}
 use Rattle.checks.specs.Line.{tokensFrom, lineCheck}
@@ -30,7 +30,7 @@ use Rattle.grammar.specs.declared.reading.Reading.the-variants.{Accepted, Refus
 use Rattle.grammar.specs.Given.{sectionsGiven, grammarGiven}
 use Rattle.grammar.proofs.Encoded.{accepted-proper}
 use Rattle.examples.specs.Entry.{Work, asBefore, holding, Entry}
-use Rattle.examples.specs.Memory.{wordAt, depthAt}
+use Rattle.examples.specs.Memory.{wordAt, numberAt}
 use Rattle.examples.specs.Claim.{OutcomeIs, Holds}
 use Rattle.examples.specs.Table.{leftGrammar, table}
 use Rattle.examples.proofs.Test.{every, same, sameBy, sameTold, passes, writesNothing, placeTest, rowTest, workTest, treeTest, answerTest, filledTest, turnedTest, readTest, test, all}
@@ -40,7 +40,7 @@ use Rattle.examples.proofs.AnswerLaws.{answer-holds}
 
 -- the computed test: every entry of the table passes
 pub all-pass : all table ≡ true
-unfolding table all test readTest turnedTest filledTest answerTest treeTest workTest rowTest placeTest writesNothing passes sameTold sameBy same every wordAt depthAt trailingZeros digit countBelow readOf sectionsOf flagsSection rulesSection rulesFrom ruleFrom eachFrom grammarOf rulesAt standing lineCheck tokensFrom startCheck spanCheck roundsOf greatest factCount total facts forest passing isBranch gathered kept marks secret covered shown chosen chosenRow chosenEnd chosenRule below firstFrom depthOf depths derivation.table listed isFound seen grade round children child tokenIs some flatten
+unfolding table all test readTest turnedTest filledTest answerTest treeTest workTest rowTest placeTest writesNothing passes sameTold sameBy same every wordAt numberAt trailingZeros digit countBelow readOf sectionsOf flagsSection rulesSection rulesFrom ruleFrom eachFrom grammarOf rulesAt standing lineCheck tokensFrom startCheck spanCheck roundsOf greatest factCount total facts forest passing isBranch gathered kept marks secret covered shown chosen chosenRow chosenEnd chosenRule below firstFrom depthOf depths derivation.table listed isFound seen grade round children child tokenIs some flatten
 all-pass = refl
 
 -- the depth 3 of (0, 0, 2) in example 5 meets the bound

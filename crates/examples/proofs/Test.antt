@@ -14,14 +14,14 @@ use Rattle.positions.specs.Member.{digit}
 use Rattle.positions.specs.Count.{countBelow}
 use Rattle.derivation.specs.Bound.{roundsBound}
 use Rattle.derivation.specs.Grammar.{Grammar}
-use Rattle.derivation.specs.Table.{Table, entry, isFound, depths}
-use Rattle.derivation.specs.RoundsOf.{roundsOf}
-use Rattle.derivation.specs.FactCount.{total, factCount}
-use Rattle.derivation.specs.Branch.{numbers}
-use Rattle.derivation.specs.Node.{Node}
-use Rattle.derivation.specs.Marks as of-line
-use Rattle.derivation.specs.Shown.{shown}
-use Rattle.derivation.specs.Forest as records
+use Rattle.derivation.specs.computed.Table.{Table, entry, isFound, depths}
+use Rattle.derivation.specs.computed.RoundsOf.{roundsOf}
+use Rattle.derivation.specs.computed.FactCount.{total, factCount}
+use Rattle.derivation.specs.Branch.{branchNumbers}
+use Rattle.derivation.specs.Node.{NodeValue}
+use Rattle.derivation.specs.computed.Marks as of-line
+use Rattle.derivation.specs.computed.Shown.{shown}
+use Rattle.derivation.specs.computed.Forest as records
 use Rattle.checks.specs.Line.{lineCheck}
 use Rattle.checks.specs.Question.{startCheck, spanCheck}
 use Rattle.grammar.specs.declared.reading.Reading.{Reading}
@@ -31,7 +31,7 @@ use Rattle.grammar.specs.Given.{sectionsGiven, grammarGiven}
 use Rattle.tree.specs.Bytes.{nodeBytes}
 use Rattle.tree.specs.Checks.{treeFact}
 use Rattle.examples.specs.Entry.{Graded, Question, chart, ends, marks, tree, forest, Work, asBefore, holding, Entry}
-use Rattle.examples.specs.Memory.{wordAt, depthAt}
+use Rattle.examples.specs.Memory.{wordAt, numberAt}
 
 -- every number below n passes
 unfoldable pub every : (ℕ → Bool) → ℕ → Bool
@@ -68,7 +68,7 @@ writesNothing chart = true
 writesNothing (ends A i) = true
 writesNothing (marks new) = same new []
 writesNothing (tree A i j nodes) = sameBy nodeBytes nodes []
-writesNothing (forest branches) = sameBy numbers branches []
+writesNothing (forest branches) = sameBy branchNumbers branches []
 
 module _ (g line : List ℕ) where
   abbrev G : Grammar
@@ -81,7 +81,7 @@ module _ (g line : List ℕ) where
   unfoldable pub placeTest : List Graded → Table → ℕ → ℕ → ℕ → Bool
   placeTest facts t A i j =
       eqb (digit (wordAt facts width (A * width + i)) j) (cond (isFound (entry t A i j)) 1 0)
-      && eqb (depthAt facts width ((A * width + i) * width + j)) (entry t A i j)
+      && eqb (numberAt facts width ((A * width + i) * width + j)) (entry t A i j)
 
   -- the word of (A, i) has no bit past n, and each end passes
   unfoldable pub rowTest : List Graded → Table → ℕ → ℕ → Bool
@@ -94,7 +94,7 @@ module _ (g line : List ℕ) where
       every (λ A. every (rowTest facts t A) (suc (length line))) (length (G .categories))
 
   -- the nodes shown, or the refusal of what is no fact
-  unfoldable pub treeTest : ℕ → ℕ → ℕ → List Node → Told → Check → Bool
+  unfoldable pub treeTest : ℕ → ℕ → ℕ → List NodeValue → Told → Check → Bool
   treeTest A i j nodes told check.Passed = sameBy nodeBytes nodes (shown G line A i j) && sameTold told (answered (length nodes ∷ []))
   treeTest A i j nodes told (check.Refused refusal) = sameBy nodeBytes nodes [] && sameTold told (refused (rowOf refusal))
 
@@ -106,7 +106,7 @@ module _ (g line : List ℕ) where
       passes (startCheck (sectionsGiven g .categories) (length line) A i) && sameTold told (answered (row ∷ countBelow 64 row ∷ trailingZeros 64 row ∷ []))
   answerTest facts (marks new) told = same new (of-line.marks G line) && sameTold told (answered (total (λ t. getD new t 0) (length line) ∷ []))
   answerTest facts (tree A i j nodes) told = passes (spanCheck (sectionsGiven g .categories) (length line) A i j) && treeTest A i j nodes told (treeFact G line A i j)
-  answerTest facts (forest branches) told = sameBy numbers branches (records.forest G line) && sameTold told (answered (length branches ∷ []))
+  answerTest facts (forest branches) told = sameBy branchNumbers branches (records.forest G line) && sameTold told (answered (length branches ∷ []))
 
   -- an accepted grammar: the line passes, the work memory is filled, and the question is answered
   unfoldable pub filledTest : Question → Told → Work → Bool

@@ -10,8 +10,8 @@ use borrow.Author.Tests.{eqb-true}
 use Rattle.refusals.specs.declared.Check.{Check}
 use Rattle.refusals.specs.declared.Check.the-variants as check
 use Rattle.refusals.specs.Told.{Told, answered, refused}
-use Rattle.derivation.specs.Node.{Node}
-use Rattle.derivation.specs.Branch.{Branch, numbers}
+use Rattle.derivation.specs.Node.{NodeValue}
+use Rattle.derivation.specs.Branch.{BranchValue, branchNumbers}
 use Rattle.derivation.proofs.Tests.{and-parts}
 use Rattle.tree.specs.Bytes.{nodeBytes}
 use Rattle.examples.specs.Entry.{node, branch, refusedBy}
@@ -41,10 +41,10 @@ same-by f one (x ∷ xs) (y ∷ ys) e =
     ap₂ _∷_ (one x y (same-is (f x) (f y) (p .0))) (same-by f one xs ys (p .1))
 
 -- the numbers of a node and of a record are its own
-pub node-one : (x y : Node) → nodeBytes x ≡ nodeBytes y → x ≡ y
+pub node-one : (x y : NodeValue) → nodeBytes x ≡ nodeBytes y → x ≡ y
 node-one x y e = let z : node (x .kind) (x .number) (x .start) (x .end) ≡ node (y .kind) (y .number) (y .start) (y .end) = cc in z
 
-pub branch-one : (x y : Branch) → numbers x ≡ numbers y → x ≡ y
+pub branch-one : (x y : BranchValue) → branchNumbers x ≡ branchNumbers y → x ≡ y
 branch-one x y e =
     let z : branch (x .rule) (x .place) (x .start) (x .middle) (x .end) ≡ branch (y .rule) (y .place) (y .start) (y .middle) (y .end) = cc in z
 

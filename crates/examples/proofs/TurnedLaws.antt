@@ -6,7 +6,7 @@ use mathlib.Core.List.{List, []}
 use Rattle.refusals.specs.declared.Refusal.{Refusal}
 use Rattle.refusals.specs.Row.{rowOf}
 use Rattle.refusals.specs.Told.{Told, refused}
-use Rattle.derivation.specs.Branch.{numbers}
+use Rattle.derivation.specs.Branch.{branchNumbers}
 use Rattle.derivation.proofs.Tests.{and-parts}
 use Rattle.grammar.specs.declared.reading.Reading.the-variants.{Refused}
 use Rattle.grammar.specs.Reading.{readOf}
@@ -41,6 +41,6 @@ module _ (g line : List ℕ) (refusal : Refusal) (read : readOf g ≡ Refused re
       let none = same-by nodeBytes node-one nodes [] (p .0) in
       (tree-answer.Refused refusal, sym (told-is told _ (p .1)), tree-outcome.turnedDown {refusal = refusal} (rw read) refl refl refl (rw none))
   turned-holds (forest branches) told asBefore ok = λ words depths rows lent room.
-      let p = and-parts (sameBy numbers branches []) (sameTold told (refused (rowOf refusal))) ok in
-      let none = same-by numbers branch-one branches [] (p .0) in
+      let p = and-parts (sameBy branchNumbers branches []) (sameTold told (refused (rowOf refusal))) ok in
+      let none = same-by branchNumbers branch-one branches [] (p .0) in
       (forest-answer.Refused refusal, sym (told-is told _ (p .1)), forest-outcome.turnedDown {refusal = refusal} (rw read) refl refl refl (rw none))

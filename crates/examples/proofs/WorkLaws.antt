@@ -15,8 +15,8 @@ use Rattle.positions.proofs.Digits.{digit-above}
 use Rattle.derivation.specs.Bound.{roundsBound}
 use Rattle.derivation.specs.Grammar.{Grammar, Proper}
 use Rattle.derivation.specs.Fact.{Fact}
-use Rattle.derivation.specs.Listing.{listed}
-use Rattle.derivation.specs.Table.{Table, entry, isFound, depths, depthOf}
+use Rattle.derivation.specs.computed.Listing.{listed}
+use Rattle.derivation.specs.computed.Table.{Table, entry, isFound, depths, depthOf}
 use Rattle.derivation.proofs.Tests.{and-parts}
 use Rattle.derivation.proofs.Within.{tree-inside}
 use Rattle.derivation.proofs.Table.{at-listed, depthOf-is}
@@ -27,32 +27,32 @@ use Rattle.filling.specs.Filled.{WorkFilled}
 use Rattle.filling.proofs.RowLaws.{row-inside}
 use Rattle.marks.proofs.Unique.{length-listed}
 use Rattle.examples.specs.Entry.{Graded, holding}
-use Rattle.examples.specs.Memory.{wordAt, depthAt, written, Lent, wordsAfter, depthsAfter}
+use Rattle.examples.specs.Memory.{wordAt, numberAt, overwritten, Lent, wordsAfter, depthsAfter}
 use Rattle.examples.proofs.Test.{every, placeTest, rowTest, workTest}
 use Rattle.examples.proofs.TestLaws.{every-each}
 
 -- a row that begins with what is written: as long as it was, and past what is written as it was
 module _ (new row : List ℕ) where
-  pub written-long : length new ≤ length row → length (written new row) ≡ length row
+  pub written-long : length new ≤ length row → length (overwritten new row) ≡ length row
   written-long room = length-front row new (length new) (sym (length-take-le (length new) row room))
 
-  pub written-at : (q : ℕ) → q < length new → getD (written new row) q 0 ≡ getD new q 0
+  pub written-at : (q : ℕ) → q < length new → getD (overwritten new row) q 0 ≡ getD new q 0
   written-at q l = List·getD-append new (drop (length new) row) 0 q l
 
-  pub written-past : (q : ℕ) → length new ≤ q → getD (written new row) q 0 ≡ getD row q 0
+  pub written-past : (q : ℕ) → length new ≤ q → getD (overwritten new row) q 0 ≡ getD row q 0
   written-past q l =
       let z : q ≡ length new + (q - length new) = omega arith in
       rw z (getD-append-add new (drop (length new) row) (q - length new) 0 ∙ getD-drop (length new) row (q - length new) 0)
 
 -- a row that begins with the values of f
 module _ (f : ℕ → ℕ) (n : ℕ) (row : List ℕ) where
-  listed-long : n ≤ length row → length (written (listed f 0 n) row) ≡ length row
+  listed-long : n ≤ length row → length (overwritten (listed f 0 n) row) ≡ length row
   listed-long room = written-long (listed f 0 n) row (rw (length-listed f 0 n) room)
 
-  listed-at : (q : ℕ) → q < n → getD (written (listed f 0 n) row) q 0 ≡ f q
+  listed-at : (q : ℕ) → q < n → getD (overwritten (listed f 0 n) row) q 0 ≡ f q
   listed-at q l = written-at (listed f 0 n) row q (rw (length-listed f 0 n) l) ∙ at-listed f 0 n q l
 
-  listed-past : (q : ℕ) → n ≤ q → getD (written (listed f 0 n) row) q 0 ≡ getD row q 0
+  listed-past : (q : ℕ) → n ≤ q → getD (overwritten (listed f 0 n) row) q 0 ≡ getD row q 0
   listed-past q l = written-past (listed f 0 n) row q (rw (length-listed f 0 n) l)
 
 -- a digit that tells the truth of a test
@@ -83,10 +83,10 @@ module _ (g line : List ℕ) (proper : Proper (grammarGiven g)) (facts : List Gr
         (ltb-true (word A i) (2 ^ suc (length line)) (p .0), p .1)
 
     place-passes : (j : ℕ) → j ≤ length line →
-        (digit (word A i) j ≡ cond (isFound (depthOf G line A i j)) 1 0) × (depthAt facts width ((A * width + i) * width + j) ≡ depthOf G line A i j)
+        (digit (word A i) j ≡ cond (isFound (depthOf G line A i j)) 1 0) × (numberAt facts width ((A * width + i) * width + j) ≡ depthOf G line A i j)
     unfolding placeTest depthOf
     place-passes j k =
-        let p = and-parts (eqb (digit (word A i) j) (cond (isFound (entry computed A i j)) 1 0)) (eqb (depthAt facts width ((A * width + i) * width + j)) (entry computed A i j)) (every-each _ _ j (row-passes .1) (suc-le-suc k)) in
+        let p = and-parts (eqb (digit (word A i) j) (cond (isFound (entry computed A i j)) 1 0)) (eqb (numberAt facts width ((A * width + i) * width + j)) (entry computed A i j)) (every-each _ _ j (row-passes .1) (suc-le-suc k)) in
         (eqb-true _ _ (p .0), eqb-true _ _ (p .1))
 
     -- its bits are set exactly for the facts
@@ -111,9 +111,9 @@ module _ (g line : List ℕ) (proper : Proper (grammarGiven g)) (facts : List Gr
         words-long = listed-long (wordAt facts width) size words (lent .words-enough);
         word = λ A i a l j. rw (listed-at (wordAt facts width) size words (A * width + i) (row-inside A (length (G .categories)) width i a (omega arith))) (word-shows A i a l j);
         words-past = listed-past (wordAt facts width) size words;
-        depths-long = listed-long (depthAt facts width) size′ depths (lent .depths-enough);
+        depths-long = listed-long (numberAt facts width) size′ depths (lent .depths-enough);
         depth = λ A i j a l k.
             let row = row-inside A (length (G .categories)) width i a (omega arith) in
-            rw (listed-at (depthAt facts width) size′ depths ((A * width + i) * width + j) (row-inside (A * width + i) size width j row (omega arith)), place-passes A i a l j k .1) (depthOf-is G line proper A i j);
-        depths-past = listed-past (depthAt facts width) size′ depths;
+            rw (listed-at (numberAt facts width) size′ depths ((A * width + i) * width + j) (row-inside (A * width + i) size width j row (omega arith)), place-passes A i a l j k .1) (depthOf-is G line proper A i j);
+        depths-past = listed-past (numberAt facts width) size′ depths;
       }

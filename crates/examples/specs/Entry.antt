@@ -2,8 +2,8 @@
 use Prim.Native.Nat.{ℕ}
 use mathlib.Core.List.{List}
 use Rattle.refusals.specs.Told.{Told, refused}
-use Rattle.derivation.specs.Node.{Node}
-use Rattle.derivation.specs.Branch.{Branch}
+use Rattle.derivation.specs.Node.{NodeValue}
+use Rattle.derivation.specs.Branch.{BranchValue}
 
 -- a fact with its depth: A, i, j, depth
 pub record Graded : Type 0 where
@@ -19,8 +19,8 @@ pub data Question : Type 0 where
   ends : ℕ → ℕ → Question
   marks : List ℕ → Question
   -- of (A, i, j)
-  tree : ℕ → ℕ → ℕ → List Node → Question
-  forest : List Branch → Question
+  tree : ℕ → ℕ → ℕ → List NodeValue → Question
+  forest : List BranchValue → Question
 
 -- what the work memory holds afterwards
 pub data Work : Type 0 where
@@ -41,10 +41,10 @@ pub record Entry : Type 0 where
 abbrev pub fact : ℕ → ℕ → ℕ → ℕ → Graded
 fact A i j depth = record { category = A; start = i; end = j; depth = depth }
 
-abbrev pub node : ℕ → ℕ → ℕ → ℕ → Node
+abbrev pub node : ℕ → ℕ → ℕ → ℕ → NodeValue
 node kind number i j = record { kind = kind; number = number; start = i; end = j }
 
-abbrev pub branch : ℕ → ℕ → ℕ → ℕ → ℕ → Branch
+abbrev pub branch : ℕ → ℕ → ℕ → ℕ → ℕ → BranchValue
 branch p d i m j = record { rule = p; place = d; start = i; middle = m; end = j }
 
 -- the refusal of this number at this place

@@ -4,7 +4,7 @@ use mathlib.Core.Bool.{cond}
 use mathlib.Core.List.{List, [], _∷_, _++_}
 use lib.ListN.{length, drop}
 use lib.Dec.{eqb}
-use Rattle.derivation.specs.Listing.{listed}
+use Rattle.derivation.specs.computed.Listing.{listed}
 use Rattle.checks.specs.Memory.{chartSize, depthsSize}
 use Rattle.grammar.specs.Given.{grammarGiven}
 use Rattle.examples.specs.Entry.{Graded, Work, asBefore, holding}
@@ -15,13 +15,13 @@ wordAt [] width q = 0
 wordAt (f ∷ facts) width q = cond (eqb (f .category * width + f .start) q) (2 ^ f .end) 0 + wordAt facts width q
 
 -- the number at q: the depth of the fact (A, i, j) with (A×width+i)×width+j = q, 0 where there is none
-unfoldable pub depthAt : List Graded → ℕ → ℕ → ℕ
-depthAt [] width q = 0
-depthAt (f ∷ facts) width q = cond (eqb ((f .category * width + f .start) * width + f .end) q) (f .depth) (depthAt facts width q)
+unfoldable pub numberAt : List Graded → ℕ → ℕ → ℕ
+numberAt [] width q = 0
+numberAt (f ∷ facts) width q = cond (eqb ((f .category * width + f .start) * width + f .end) q) (f .depth) (numberAt facts width q)
 
 -- a lent row that begins with what is written, and past it has its old contents
-abbrev pub written : {X : Type 0} → List X → List X → List X
-written new row = new ++ drop (length new) row
+abbrev pub overwritten : {X : Type 0} → List X → List X → List X
+overwritten new row = new ++ drop (length new) row
 
 -- N, the number of categories; 0 where the grammar is refused
 abbrev pub categoryCount : List ℕ → ℕ
@@ -36,9 +36,9 @@ module _ (g line : List ℕ) where
   -- N×(n+1) words
   abbrev pub wordsAfter : Work → List ℕ → List ℕ
   wordsAfter asBefore words = words
-  wordsAfter (holding facts) words = written (listed (wordAt facts (length line + 1)) 0 (chartSize (categoryCount g) (length line))) words
+  wordsAfter (holding facts) words = overwritten (listed (wordAt facts (length line + 1)) 0 (chartSize (categoryCount g) (length line))) words
 
   -- N×(n+1)×(n+1) depths
   abbrev pub depthsAfter : Work → List ℕ → List ℕ
   depthsAfter asBefore depths = depths
-  depthsAfter (holding facts) depths = written (listed (depthAt facts (length line + 1)) 0 (depthsSize (categoryCount g) (length line))) depths
+  depthsAfter (holding facts) depths = overwritten (listed (numberAt facts (length line + 1)) 0 (depthsSize (categoryCount g) (length line))) depths

@@ -13,8 +13,8 @@ use lib.ListN.{length, getD, set, length-set}
 use lib.Seq.{getD-set-same, getD-set-other}
 use Rattle.positions.specs.Member.{Member}
 use Rattle.positions.proofs.Members.{none-member, xor-member, xor-some}
-use Rattle.filling.specs.Commit.{New, Deepened, Committed, SomeNew, Ready}
-use Rattle.filling.specs.Gained.{RowsCommitted, AllCommitted}
+use Rattle.filling.specs.inner.Commit.{New, Deepened, Committed, SomeNew, Ready}
+use Rattle.filling.specs.inner.Gained.{RowsCommitted, AllCommitted}
 use Rattle.filling.proofs.RowLaws.{row-one}
 
 -- a row whose words are equal has the same new ends

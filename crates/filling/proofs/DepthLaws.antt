@@ -8,7 +8,7 @@ use lib.ListN.{length, getD, set, length-set}
 use lib.Seq.{getD-set-same, getD-set-other}
 use Rattle.positions.specs.Member.{Member}
 use Rattle.positions.proofs.Members.{none-member, less-member}
-use Rattle.filling.specs.Commit.{Deepened}
+use Rattle.filling.specs.inner.Commit.{Deepened}
 
 module _ (base depth : ℕ) where
   -- of no member

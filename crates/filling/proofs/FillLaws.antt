@@ -11,22 +11,22 @@ use Rattle.positions.specs.Member.{Member}
 use Rattle.positions.specs.With.{With}
 use Rattle.positions.proofs.Members.{none-member, some-member}
 use Rattle.derivation.specs.Grammar.{Grammar, Proper}
-use Rattle.derivation.specs.Within.{Within}
+use Rattle.derivation.specs.inner.Within.{Within}
 use Rattle.derivation.specs.Fact.{Fact}
 use Rattle.derivation.specs.Depth.{Depth}
-use Rattle.derivation.specs.Table.{DepthAfter, found, notYet}
+use Rattle.derivation.specs.computed.Table.{DepthAfter, found, notYet}
 use Rattle.derivation.proofs.Within.{tree-inside}
 use Rattle.derivation.proofs.Table.{height-pos}
 use Rattle.derivation.proofs.Decide.{rounds-bound}
 use Rattle.derivation.proofs.Still.{NothingNew, after-new, after-same, holds-still, all-known, depth-settled}
 use Rattle.checks.specs.Memory.{chartSize, depthsSize}
 use Rattle.grammar.specs.Limits.{WithinLimits}
-use Rattle.filling.specs.Holds.{Holds}
-use Rattle.filling.specs.Places.{Places}
-use Rattle.filling.specs.Mask.{Masks}
-use Rattle.filling.specs.Commit.{New, SomeNew, Ready}
-use Rattle.filling.specs.Gained.{AllCommitted}
-use Rattle.filling.specs.Round.{ByRule, RulesApplied, Gain, Changed, start, after}
+use Rattle.filling.specs.inner.Holds.{HoldsAfter}
+use Rattle.filling.specs.inner.Places.{Places}
+use Rattle.filling.specs.inner.Mask.{Masks}
+use Rattle.filling.specs.inner.Commit.{New, SomeNew, Ready}
+use Rattle.filling.specs.inner.Gained.{AllCommitted}
+use Rattle.filling.specs.inner.Round.{ByRule, RulesApplied, Gain, Changed, start, after}
 use Rattle.filling.specs.Filled.{Filled}
 use Rattle.filling.proofs.TableLaws.{zeros-at}
 use Rattle.filling.proofs.RowLaws.{row-inside, row-one, row-of}
@@ -47,7 +47,7 @@ DepthsAfter G line h depths =
 
 -- what holds after h rounds
 pub record Done (G : Grammar) (line : List ℕ) (h changed : ℕ) (words₀ depths₀ words next depths : List ℕ) : Type 0 where
-  pub holds : Holds G line h words
+  pub holds : HoldsAfter G line h words
   pub words-long : length words ≡ length words₀
   pub words-past : (q : ℕ) → chartSize (length (G .categories)) (length line) ≤ q → getD words q 0 ≡ getD words₀ q 0
   pub next-long : length next ≡ 2048
@@ -94,7 +94,7 @@ module _ {G : Grammar} {line : List ℕ} (given : Given G line) (h changed : ℕ
   row-same A i a l = done .same _ (row-inside A (length (G .categories)) (length line + 1) i a (omega arith))
 
   -- the rows of `next` hold what derives within one more
-  next-holds : Holds G line (suc h) next′
+  next-holds : HoldsAfter G line (suc h) next′
   next-holds A i a l j = (
     λ m. finds .1 (to (applied .gains line h refl pl (done .holds) A i a l j .0 m)),
     λ v. applied .gains line h refl pl (done .holds) A i a l j .1 (from (finds .0 v)),

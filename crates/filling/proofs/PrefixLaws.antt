@@ -16,10 +16,10 @@ use Rattle.positions.specs.AfterClass.{AfterClass}
 use Rattle.positions.proofs.Members.{none-member, or-member}
 use Rattle.derivation.specs.Grammar.{Grammar}
 use Rattle.derivation.specs.Tree.{Children, stop}
-use Rattle.derivation.specs.Within.{Within, ChildrenWithin}
+use Rattle.derivation.specs.inner.Within.{Within, ChildrenWithin}
 use Rattle.derivation.proofs.Within.{children-inside}
 use Rattle.derivation.proofs.Prefix.{empty-within, split, prefix-join, prefix-split, token-within, category-within, within-token, within-category}
-use Rattle.filling.specs.Reach.{ChartOf, Reaches, Applied}
+use Rattle.filling.specs.inner.Reach.{ChartOf, Reaches, Applied}
 
 -- the rows of a category are among the first 2048
 pub rows-few : (left width : ℕ) → left < 32 → width ≤ 64 → left * width + width ≤ 2048

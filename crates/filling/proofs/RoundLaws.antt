@@ -12,14 +12,14 @@ use lib.ListN.{length, getD}
 use Rattle.positions.specs.Member.{Member}
 use Rattle.positions.proofs.Members.{none-member, and-member}
 use Rattle.derivation.specs.Grammar.{Grammar, IsRule, Among}
-use Rattle.derivation.specs.Within.{Within, ChildrenWithin}
-use Rattle.derivation.specs.Round.{within}
+use Rattle.derivation.specs.inner.Within.{Within, ChildrenWithin}
+use Rattle.derivation.specs.computed.Round.{within}
 use Rattle.derivation.proofs.Within.{within-sound, within-complete}
 use Rattle.derivation.proofs.Prefix.{rule-within, within-rule}
 use Rattle.derivation.proofs.Skip.{children-lower, category-needs-height}
 use Rattle.grammar.specs.Limits.{WithinLimits}
-use Rattle.filling.specs.Mask.{MaskOf, Masks}
-use Rattle.filling.specs.Round.{ByRule, Changed, start, after}
+use Rattle.filling.specs.inner.Mask.{MaskOf, Masks}
+use Rattle.filling.specs.inner.Round.{ByRule, Changed, start, after}
 
 -- sets that share nothing have no member in common
 apart : (a b : ℕ) → bitAnd a b ≡ 0 → (j : ℕ) → Member a j → Member b j → ⊥

@@ -10,16 +10,16 @@ use lib.Bits.{bitAnd}
 use lib.ListN.{length, getD}
 use Rattle.positions.specs.Member.{Member}
 use Rattle.derivation.specs.Grammar.{Rule, Grammar, IsRule}
-use Rattle.derivation.specs.Within.{ChildrenWithin}
+use Rattle.derivation.specs.inner.Within.{ChildrenWithin}
 use Rattle.grammar.specs.declared.reading.Sections.{Sections}
 use Rattle.grammar.specs.declared.reading.Reading.the-variants.{Accepted}
 use Rattle.grammar.specs.Value.{Sectioned, standing, grammarOf, Found}
 use Rattle.grammar.specs.Limits.{RuleWithin}
 use Rattle.grammar.proofs.Encoded.{rule-count, category-count, sections-within}
-use Rattle.filling.specs.Places.{Places}
-use Rattle.filling.specs.Holds.{Holds}
-use Rattle.filling.specs.Reach.{Room, ChartOf, Applied}
-use Rattle.filling.specs.Round.{Run, ByRule, RulesApplied}
+use Rattle.filling.specs.inner.Places.{Places}
+use Rattle.filling.specs.inner.Holds.{HoldsAfter}
+use Rattle.filling.specs.inner.Reach.{Room, ChartOf, Applied}
+use Rattle.filling.specs.inner.Round.{Run, ByRule, RulesApplied}
 use Rattle.filling.proofs.RowLaws.{row-before}
 
 -- a rule of the first k that is run derives i..j
@@ -29,7 +29,7 @@ ByFirst G line h masks changed k A i j = (b : ByRule G line h masks changed A i 
 pub record RulesBelow (G : Grammar) (masks : List ℕ) (changed : ℕ) (words places : List ℕ) (width k : ℕ) (old new : List ℕ) : Type 0 where
   pub long : length new ≡ length old
   pub gains :
-      (line : List ℕ) (h : ℕ) → width ≡ length line + 1 → Places line places → Holds G line h words →
+      (line : List ℕ) (h : ℕ) → width ≡ length line + 1 → Places line places → HoldsAfter G line h words →
       (A i : ℕ) → A < length (G .categories) → i ≤ length line → (j : ℕ) →
       Member (getD new (A * width + i) 0) j ↔ (Member (getD old (A * width + i) 0) j ⊎ ByFirst G line h masks changed k A i j)
 
@@ -61,9 +61,9 @@ module _ {G : Grammar} {masks : List ℕ} {changed : ℕ} {words places : List �
 
   -- rule k, left → symbols, is applied
   module _ (k left : ℕ) (symbols new new′ : List ℕ) (r : IsRule G k left symbols) (run : Run (getD masks k 0) changed)
-      (chart : (line : List ℕ) (h : ℕ) → width ≡ length line + 1 → Places line places → Holds G line h words → ChartOf G line h symbols words places width)
+      (chart : (line : List ℕ) (h : ℕ) → width ≡ length line + 1 → Places line places → HoldsAfter G line h words → ChartOf G line h symbols words places width)
       (applied : Applied symbols words places (left * width) width new new′) (x : RulesBelow G masks changed words places width k old new) where
-    module _ (line : List ℕ) (h : ℕ) (w : width ≡ length line + 1) (pl : Places line places) (ho : Holds G line h words) (A i : ℕ) (a : A < length (G .categories)) (l : i ≤ length line) (j : ℕ) where
+    module _ (line : List ℕ) (h : ℕ) (w : width ≡ length line + 1) (pl : Places line places) (ho : HoldsAfter G line h words) (A i : ℕ) (a : A < length (G .categories)) (l : i ≤ length line) (j : ℕ) where
       abbrev Before : Type 0
       Before = Member (getD old (A * width + i) 0) j ⊎ ByFirst G line h masks changed k A i j
 
@@ -152,6 +152,6 @@ module _ (g : List ℕ) (s : Sections) (read : Sectioned g s) (p at : ℕ) (f : 
   }
 
   pub rule-chart :
-      (words places : List ℕ) (width : ℕ) (line : List ℕ) (h : ℕ) → width ≡ length line + 1 → Places line places → Holds (grammarOf g s) line h words →
+      (words places : List ℕ) (width : ℕ) (line : List ℕ) (h : ℕ) → width ≡ length line + 1 → Places line places → HoldsAfter (grammarOf g s) line h words →
       ChartOf (grammarOf g s) line h (standing g at .right) words places width
   rule-chart words places width line h w pl ho = record { wide = w; placed = pl; holds = ho; known = λ d k c. rule-within .symbols d k .category c }

@@ -15,8 +15,8 @@ use Rattle.derivation.specs.Grammar.{ruleAt, Among}
 use Rattle.grammar.specs.declared.reading.Sections.{Sections}
 use Rattle.grammar.specs.Value.{Sectioned, grammarOf}
 use Rattle.grammar.proofs.Encoded.{rule-count, sections-within}
-use Rattle.filling.specs.Places.{Places}
-use Rattle.filling.specs.Mask.{MaskOf}
+use Rattle.filling.specs.inner.Places.{Places}
+use Rattle.filling.specs.inner.Mask.{MaskOf}
 
 -- an array of zeros has 0 at every place, also past its end
 pub zeros-at : (n q : ℕ) → _≡_ {A = ℕ} (getD (replicate n 0) q 0) 0

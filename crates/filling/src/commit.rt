@@ -2,8 +2,8 @@
 ghost use Prim.Native.Nat.{ℕ, _+_, _*_, _≤_, _<_};
 ghost use lib.ListN.{length};
 ghost use Rattle.positions.specs.Member.{Member};
-ghost use Rattle.filling.specs.Commit.{Deepened, Ready};
-ghost use Rattle.filling.specs.Gained.{RowsCommitted, AllCommitted};
+ghost use Rattle.filling.specs.inner.Commit.{Deepened, Ready};
+ghost use Rattle.filling.specs.inner.Gained.{RowsCommitted, AllCommitted};
 
 // The entries of the set's members, from base on, are the depth.
 pub fn write_depths(depths: &mut [u16], base: usize, set: u64, depth: u16)

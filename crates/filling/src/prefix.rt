@@ -2,7 +2,7 @@
 ghost use mathlib.Core.Path.{_≡_};
 ghost use Prim.Native.Nat.{_*_, _<_};
 ghost use lib.ListN.{length};
-ghost use Rattle.filling.specs.Reach.{Room, Reaches, Applied};
+ghost use Rattle.filling.specs.inner.Reach.{Room, Reaches, Applied};
 
 // The ends of the symbols from a start.
 pub fn reach(symbols: &[u8], words: &[u64], places: &[u64; 128], width: usize, start: usize) -> u64

@@ -3,9 +3,9 @@ ghost use Prim.Native.Nat.{ℕ, _<_};
 ghost use lib.ListN.{length, getD};
 ghost use Rattle.checks.specs.Line.{IsLine};
 ghost use Rattle.grammar.specs.Value.{Sectioned, grammarOf};
-ghost use Rattle.grammar.specs.Starts.{Starts};
-ghost use Rattle.filling.specs.Places.{Places};
-ghost use Rattle.filling.specs.Mask.{MaskOf, Masks};
+ghost use Rattle.grammar.specs.inner.Starts.{Starts};
+ghost use Rattle.filling.specs.inner.Places.{Places};
+ghost use Rattle.filling.specs.inner.Mask.{MaskOf, Masks};
 
 // The positions of the tokens of each class.
 pub fn class_places(line: &[u8]) -> [u64; 128]

@@ -13,18 +13,18 @@ use Rattle.positions.specs.Count.{countBelow}
 use Rattle.positions.proofs.Members.{no-digit}
 use Rattle.derivation.specs.Grammar.{Grammar, Proper, ruleAt}
 use Rattle.derivation.specs.Tree.{Child, Children}
-use Rattle.derivation.specs.Round.{child, children}
-use Rattle.derivation.specs.Facts.{facts}
-use Rattle.derivation.specs.Forest.{isBranch, passing, forest}
-use Rattle.derivation.specs.FactCount.{total}
+use Rattle.derivation.specs.computed.Round.{child, children}
+use Rattle.derivation.specs.computed.Facts.{facts}
+use Rattle.derivation.specs.computed.Forest.{isBranch, passing, forest}
+use Rattle.derivation.specs.computed.FactCount.{total}
 use Rattle.derivation.proofs.Tests.{and-parts, and-both}
 use Rattle.derivation.proofs.Within.{child-inside}
 use Rattle.derivation.proofs.Totals.{total-none, total-le, total-past, total-same}
 use Rattle.derivation.proofs.Facts.{facts-exact, length-gathered, length-kept}
 use Rattle.derivation.proofs.Forest.{child-exact, children-exact}
 use Rattle.chart.proofs.CountLaws.{count-total, digit-test}
-use Rattle.forest.specs.Rest.{branchAt}
-use Rattle.forest.specs.Count.{derives, middleCount, startCount, placeCount, ruleCount}
+use Rattle.forest.specs.inner.Rest.{branchAt}
+use Rattle.forest.specs.inner.Count.{derives, middleCount, startCount, placeCount, ruleCount}
 
 -- a total's first number apart
 total-first : (f : ℕ → ℕ) (n : ℕ) → total f (suc n) ≡ f 0 + total (λ k. f (suc k)) n

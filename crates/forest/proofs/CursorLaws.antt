@@ -9,16 +9,16 @@ use Rattle.positions.specs.Member.{Member}
 use Rattle.positions.proofs.Members.{none-member}
 use Rattle.derivation.specs.Grammar.{Grammar, Rule, ruleAt}
 use Rattle.derivation.specs.Tree.{Children}
-use Rattle.derivation.specs.Branch.{Branch, IsBranch}
+use Rattle.derivation.specs.Branch.{BranchValue, IsBranch}
 use Rattle.derivation.proofs.Within.{child-inside, children-inside}
 use Rattle.grammar.specs.Value.{standing}
 use Rattle.grammar.specs.Given.{grammarGiven}
 use Rattle.forest.specs.declared.Cursor.{Cursor}
 use Rattle.forest.specs.declared.seek.Spot.{Spot}
-use Rattle.forest.specs.Charted.{Charted, RuleStands}
-use Rattle.forest.specs.Ends.{SymbolDerives, PrefixEnds}
-use Rattle.forest.specs.Rest.{branchAt, endsFrom, middlesFrom, from, rest, records}
-use Rattle.forest.specs.Cursor.{branchOf, Stood, Made, FirstMiddle}
+use Rattle.forest.specs.inner.Charted.{Charted, RuleStands}
+use Rattle.forest.specs.inner.Ends.{SymbolDerives, PrefixEnds}
+use Rattle.forest.specs.inner.Rest.{branchAt, endsFrom, middlesFrom, from, rest, records}
+use Rattle.forest.specs.inner.Cursor.{branchOf, Stood, Made, FirstMiddle}
 use Rattle.forest.proofs.EndsLaws.{proper, rules-all}
 use Rattle.forest.proofs.SeekLaws.{ends-none, middles-none, ends-first, middles-first, from-found, from-start}
 
@@ -117,7 +117,7 @@ module _ (g line words : List ℕ) (chart : Charted g line words) (p at : ℕ) (
 
       -- all after the cursor's record
       pub spot-rest :
-          (t : List Branch) → t ≡ from G line p (suc d) (suc i) →
+          (t : List BranchValue) → t ≡ from G line p (suc d) (suc i) →
           (endsFrom G line p (suc d) i (spot .middle) (suc (r .branch .end)) ++ middlesFrom G line p (suc d) i (suc (spot .middle))) ++ t ≡ rest G line (branchOf (r .branch))
       spot-rest t e =
           append-assoc (endsFrom G line p (suc d) i (spot .middle) (suc (r .branch .end))) (middlesFrom G line p (suc d) i (suc (spot .middle))) t
@@ -128,7 +128,7 @@ module _ (g line words : List ℕ) (chart : Charted g line words) (p at : ℕ) (
       pub spot-from : k ≡ 0 → from G line p (suc d) i ≡ records G line (branchOf (r .branch))
       spot-from e =
           from-found G line (proper g line words chart) p (suc d) i inside (rw e at spot-middles)
-          ∙ ap (λ (t : List Branch). branchOf (r .branch) ∷ t) (spot-rest (from G line p (suc d) (suc i)) refl)
+          ∙ ap (λ (t : List BranchValue). branchOf (r .branch) ∷ t) (spot-rest (from G line p (suc d) (suc i)) refl)
 
     pub start-left : (spot : Spot) → FirstMiddle g line at d middles 0 spot → spot .ends ≡ 0 → from G line p (suc d) i ≡ from G line p (suc d) (suc i)
     start-left spot s e = from-start G line (proper g line words chart) p (suc d) i inside (middles-left 0 spot s e)

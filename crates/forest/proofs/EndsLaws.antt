@@ -24,8 +24,8 @@ use Rattle.grammar.proofs.Accepted.{accepted, whole, found}
 use Rattle.grammar.proofs.Encoded.{category-count, rule-count, sections-within, sections-proper}
 use Rattle.filling.proofs.PrefixLaws.{stays}
 use Rattle.filling.proofs.RowLaws.{row-inside}
-use Rattle.forest.specs.Charted.{Charted, RuleStands, Standing}
-use Rattle.forest.specs.Ends.{SymbolDerives, SymbolEnds, StepEnds, PrefixEnds}
+use Rattle.forest.specs.inner.Charted.{Charted, RuleStands, Standing}
+use Rattle.forest.specs.inner.Ends.{SymbolDerives, SymbolEnds, StepEnds, PrefixEnds}
 
 -- a class derives one token, and a category what its facts are
 child-class : {g : Grammar} {w : List ℕ} {c i j : ℕ} → c < 128 → Child g w c i j → (i < length w) × (getD w i 0 ≡ c) × (j ≡ suc i)

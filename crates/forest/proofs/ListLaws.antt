@@ -5,8 +5,8 @@ use mathlib.Core.List.{List, [], _∷_, _++_, flatten}
 use native.Mathlib.Nat.{le-refl}
 use native.Mathlib.Decide.{decLt}
 use native.Mathlib.Omega.{arith}
-use Rattle.derivation.specs.Listing.{listed, gathered}
-use Rattle.forest.specs.Rest.{later}
+use Rattle.derivation.specs.computed.Listing.{listed, gathered}
+use Rattle.forest.specs.inner.Rest.{later}
 
 -- what is gathered is gathered from 0 on
 pub gathered-later : {X : Type 0} (n : ℕ) {f h : ℕ → List X} → ((k : ℕ) → f k ≡ h k) → gathered n f ≡ later n h 0

@@ -7,23 +7,24 @@ use native.Mathlib.Omega.{arith}
 use lib.ListN.{length, take, drop, length-map}
 use lib.Seq.{take-all}
 use Rattle.derivation.specs.Branch as derivation
-use Rattle.derivation.specs.Forest.{forest}
+use Rattle.derivation.specs.computed.Forest.{forest}
 use Rattle.grammar.specs.Given.{grammarGiven}
 use Rattle.forest.specs.declared.Branch.{Branch}
 use Rattle.forest.specs.declared.Plan.{Plan}
 use Rattle.forest.specs.Told.{forestTold}
-use Rattle.forest.specs.Planned.{Planned}
-use Rattle.forest.specs.Planned as planned
-use Rattle.forest.specs.Writing.{written, writtenFrom, Writes}
+use Rattle.forest.specs.inner.Planned.{Planned}
+use Rattle.forest.specs.inner.Planned as planned
+use Rattle.forest.specs.inner.Writing.{writtenFrom, Writes}
+use Rattle.forest.specs.Record.{recordOf}
 use Rattle.forest.specs.Outcome.{ForestOutcome}
 use Rattle.forest.specs.Outcome as outcome
 
 -- all of the records where they are counted right, be there any or none
-all-written : (l : List derivation.Branch) (n : ℕ) (from : List Branch) → n ≡ length l → (0 < length l → from ≡ map written l) → take n from ≡ map written l
+all-written : (l : List derivation.BranchValue) (n : ℕ) (from : List Branch) → n ≡ length l → (0 < length l → from ≡ map recordOf l) → take n from ≡ map recordOf l
 all-written [] n from e h = ap (λ (k : ℕ). take k from) e
 all-written (b ∷ l) n from e h =
     let same = h (omega arith) in
-    ap (take n) same ∙ take-all n (map written (b ∷ l)) (le-of-eq (length-map (b ∷ l) written ∙ sym e))
+    ap (take n) same ∙ take-all n (map recordOf (b ∷ l)) (le-of-eq (length-map (b ∷ l) recordOf ∙ sym e))
 
 module _ (g line words depths : List ℕ) (room : ℕ) (words′ depths′ : List ℕ) (plan : Plan) where
   pub plan-fits : Planned g line words depths room words′ depths′ plan → plan .n ≤ room
@@ -36,7 +37,7 @@ module _ (g line words depths : List ℕ) (room : ℕ) (words′ depths′ : Lis
   plan-writes (planned.noRoom e l z a f) some = absurd (omega arith)
   plan-writes (planned.ready e l fits z a f h) some =
       let first = h (omega arith) in
-      record { charted = first .charted; stood = first .stood; enough = le-of-eq (z ∙ ap (λ (k : List derivation.Branch). length k) (first .all)) }
+      record { charted = first .charted; stood = first .stood; enough = le-of-eq (z ∙ ap (λ (k : List derivation.BranchValue). length k) (first .all)) }
 
 module _ (g line words depths : List ℕ) (rows : List Branch) (words′ depths′ : List ℕ) (rows′ : List Branch) (plan : Plan) where
   -- no record is written
@@ -51,4 +52,4 @@ module _ (g line words depths : List ℕ) (rows : List Branch) (words′ depths�
   plan-outcome (planned.ready e l fits z a f h) r =
       outcome.answered (rw (e, l)) (ap forestTold a) f
       (r ∙ ap₂ (λ (s : List Branch) (k : ℕ). s ++ drop k rows)
-      (all-written (forest (grammarGiven g) line) (plan .n) (writtenFrom g line (plan .first)) z (λ some. ap (map written) (sym (h some .all)))) z)
+      (all-written (forest (grammarGiven g) line) (plan .n) (writtenFrom g line (plan .first)) z (λ some. ap (map recordOf) (sym (h some .all)))) z)

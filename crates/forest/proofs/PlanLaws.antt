@@ -22,10 +22,10 @@ use Rattle.forest.specs.declared.Cursor.{Cursor}
 use Rattle.forest.specs.declared.Plan.{Plan}
 use Rattle.forest.specs.declared.ForestAnswer.the-variants.{Records, Refused}
 use Rattle.forest.specs.declared.seek.Sought.the-variants.{At, Nowhere}
-use Rattle.forest.specs.Charted.{Charted}
-use Rattle.forest.specs.Cursor.{FirstRecord}
+use Rattle.forest.specs.inner.Charted.{Charted}
+use Rattle.forest.specs.inner.Cursor.{FirstRecord}
 use Rattle.forest.specs.Checks.{recordCount, roomCheck, forestChecks}
-use Rattle.forest.specs.Planned.{AtFirst, Planned, turnedDown, noRoom, ready}
+use Rattle.forest.specs.inner.Planned.{AtFirst, Planned, turnedDown, noRoom, ready}
 use Rattle.forest.proofs.EndsLaws.{proper}
 use Rattle.forest.proofs.SeekLaws.{forest-from}
 
@@ -71,5 +71,5 @@ module _ (g line words depths : List ℕ) (room : ℕ) (s : Sections) (passes : 
 
     pub plan-empty : count ≤ room → FirstRecord g line 0 0 0 Nowhere → Planned g line words depths room words′ depths′ (record { n = count; first = first; answer = Records count })
     plan-empty l f =
-        let none : recordCount (grammarGiven g) line ≡ 0 = ap (λ (l : List derivation.Branch). length l) (forest-from (grammarGiven g) line (proper g line words′ charted) ∙ f) in
+        let none : recordCount (grammarGiven g) line ≡ 0 = ap (λ (l : List derivation.BranchValue). length l) (forest-from (grammarGiven g) line (proper g line words′ charted) ∙ f) in
         plan-ready l (λ z. absurd (omega arith))

@@ -10,7 +10,7 @@ use Rattle.grammar.specs.Reading.{rulesFrom}
 use Rattle.grammar.specs.Value.{startOf, after}
 use Rattle.grammar.specs.Given.{sectionsGiven}
 use Rattle.grammar.proofs.Accepted.{accepted, whole, rules-to}
-use Rattle.forest.specs.Charted.{Charted, RuleStands}
+use Rattle.forest.specs.inner.Charted.{Charted, RuleStands}
 use Rattle.forest.proofs.EndsLaws.{sectioned, rule-found}
 
 -- rules that are read end where the one after them would stand

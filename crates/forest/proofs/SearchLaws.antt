@@ -12,10 +12,10 @@ use Rattle.grammar.proofs.Accepted.{start-more}
 use Rattle.forest.specs.declared.Cursor.{Cursor}
 use Rattle.forest.specs.declared.seek.Spot.{Spot}
 use Rattle.forest.specs.declared.seek.Sought.the-variants.{At, Nowhere}
-use Rattle.forest.specs.Charted.{Charted, RuleStands}
-use Rattle.forest.specs.Ends.{PrefixEnds}
-use Rattle.forest.specs.Rest.{from}
-use Rattle.forest.specs.Cursor.{Made, FirstMiddle, FirstRecord}
+use Rattle.forest.specs.inner.Charted.{Charted, RuleStands}
+use Rattle.forest.specs.inner.Ends.{PrefixEnds}
+use Rattle.forest.specs.inner.Rest.{from}
+use Rattle.forest.specs.inner.Cursor.{Made, FirstMiddle, FirstRecord}
 use Rattle.forest.proofs.EndsLaws.{proper, rules-all}
 use Rattle.forest.proofs.RuleLaws.{rule-there, rules-over}
 use Rattle.forest.proofs.SeekLaws.{from-rule, from-place, from-none}

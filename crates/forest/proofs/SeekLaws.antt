@@ -7,12 +7,12 @@ use native.Mathlib.Decide.{decLt}
 use native.Mathlib.Omega.{arith}
 use lib.ListN.{length}
 use Rattle.derivation.specs.Grammar.{Grammar, Proper, ruleAt}
-use Rattle.derivation.specs.Listing.{kept}
-use Rattle.derivation.specs.Facts.{facts}
-use Rattle.derivation.specs.Branch.{Branch, IsBranch}
-use Rattle.derivation.specs.Forest.{isBranch, passing, forest}
+use Rattle.derivation.specs.computed.Listing.{kept}
+use Rattle.derivation.specs.computed.Facts.{facts}
+use Rattle.derivation.specs.Branch.{BranchValue, IsBranch}
+use Rattle.derivation.specs.computed.Forest.{isBranch, passing, forest}
 use Rattle.derivation.proofs.Forest.{isBranch-iff}
-use Rattle.forest.specs.Rest.{branchAt, later, endsFrom, middlesFrom, startsFrom, placesFrom, rulesFrom, from}
+use Rattle.forest.specs.inner.Rest.{branchAt, later, endsFrom, middlesFrom, startsFrom, placesFrom, rulesFrom, from}
 use Rattle.forest.proofs.ListLaws.{gathered-later, later-step, later-none, later-empty, later-at}
 
 -- what is kept of a that does not pass, and of one that does
@@ -29,13 +29,13 @@ unfolding kept
 kept-one test x e = rw e
 
 module _ (G : Grammar) (line : List ℕ) (proper : Proper G) where
-  abbrev test : Branch → Bool
+  abbrev test : BranchValue → Bool
   test = isBranch G line (facts G line)
 
-  no-record : (b : Branch) → (IsBranch G line b → ⊥) → kept test b ≡ []
+  no-record : (b : BranchValue) → (IsBranch G line b → ⊥) → kept test b ≡ []
   no-record b n = kept-none test b (λ e. n (isBranch-iff proper b .0 e))
 
-  one-record : (b : Branch) → IsBranch G line b → kept test b ≡ b ∷ []
+  one-record : (b : BranchValue) → IsBranch G line b → kept test b ≡ b ∷ []
   one-record b r = kept-one test b (isBranch-iff proper b .1 r)
 
   -- no record of this rule, place, start and middle; of this rule, place and start; of this rule and place
@@ -74,8 +74,8 @@ module _ (G : Grammar) (line : List ℕ) (proper : Proper G) where
   pub rules-from : (p : ℕ) → rulesFrom G line p ≡ from G line p 1 0
   rules-from p =
       let zero-place : startsFrom G line p 0 0 ≡ [] = starts-none p 0 0 (λ i m j r. omega (arith, r .first)) in
-      let places : placesFrom G line p 0 ≡ startsFrom G line p 1 0 ++ placesFrom G line p 2 = places-next p 0 ∙ ap (λ (s : List Branch). s ++ placesFrom G line p 1) zero-place ∙ places-next p 1 in
-      rules-next p ∙ ap (λ (s : List Branch). s ++ rulesFrom G line (suc p)) places ∙ append-assoc (startsFrom G line p 1 0) (placesFrom G line p 2) (rulesFrom G line (suc p))
+      let places : placesFrom G line p 0 ≡ startsFrom G line p 1 0 ++ placesFrom G line p 2 = places-next p 0 ∙ ap (λ (s : List BranchValue). s ++ placesFrom G line p 1) zero-place ∙ places-next p 1 in
+      rules-next p ∙ ap (λ (s : List BranchValue). s ++ rulesFrom G line (suc p)) places ∙ append-assoc (startsFrom G line p 1 0) (placesFrom G line p 2) (rulesFrom G line (suc p))
 
   pub forest-from : forest G line ≡ from G line 0 1 0
   unfolding forest passing
@@ -84,25 +84,25 @@ module _ (G : Grammar) (line : List ℕ) (proper : Proper G) where
   -- from a place that the rule does not have: from the next rule on
   pub from-rule : (p d i : ℕ) → length (ruleAt G p .right) ≤ d → from G line p (suc d) i ≡ from G line (suc p) 1 0
   from-rule p d i l =
-      ap₂ _++_ (past-places p (suc d) i (omega arith)) (ap (λ (s : List Branch). s ++ rulesFrom G line (suc p)) (later-none _ _ (suc (suc d)) (omega arith)))
+      ap₂ _++_ (past-places p (suc d) i (omega arith)) (ap (λ (s : List BranchValue). s ++ rulesFrom G line (suc p)) (later-none _ _ (suc (suc d)) (omega arith)))
       ∙ rules-from (suc p)
 
   -- from a start past the line: from the next place on
   pub from-place : (p d i : ℕ) → length line < i → from G line p d i ≡ from G line p (suc d) 0
   from-place p d i l =
-      ap₂ _++_ (later-none _ _ i (omega arith)) (ap (λ (s : List Branch). s ++ rulesFrom G line (suc p)) (places-next p (suc d)))
+      ap₂ _++_ (later-none _ _ i (omega arith)) (ap (λ (s : List BranchValue). s ++ rulesFrom G line (suc p)) (places-next p (suc d)))
       ∙ append-assoc (startsFrom G line p (suc d) 0) (placesFrom G line p (suc (suc d))) (rulesFrom G line (suc p))
 
   -- a start without records
   pub from-start : (p d i : ℕ) → i ≤ length line → middlesFrom G line p d i 0 ≡ [] → from G line p d i ≡ from G line p d (suc i)
-  from-start p d i l e = ap (λ (s : List Branch). s ++ (placesFrom G line p (suc d) ++ rulesFrom G line (suc p))) (later-step _ _ i (suc-le-suc l) ∙ ap (λ (s : List Branch). s ++ startsFrom G line p d (suc i)) e)
+  from-start p d i l e = ap (λ (s : List BranchValue). s ++ (placesFrom G line p (suc d) ++ rulesFrom G line (suc p))) (later-step _ _ i (suc-le-suc l) ∙ ap (λ (s : List BranchValue). s ++ startsFrom G line p d (suc i)) e)
 
   -- a start with records
-  pub from-found : (p d i : ℕ) {b : Branch} {t : List Branch} → i ≤ length line → middlesFrom G line p d i 0 ≡ b ∷ t → from G line p d i ≡ b ∷ (t ++ from G line p d (suc i))
+  pub from-found : (p d i : ℕ) {b : BranchValue} {t : List BranchValue} → i ≤ length line → middlesFrom G line p d i 0 ≡ b ∷ t → from G line p d i ≡ b ∷ (t ++ from G line p d (suc i))
   from-found p d i {b} {t} l e =
       let later = placesFrom G line p (suc d) ++ rulesFrom G line (suc p) in
-      ap (λ (s : List Branch). s ++ later) (later-step _ _ i (suc-le-suc l) ∙ ap (λ (s : List Branch). s ++ startsFrom G line p d (suc i)) e)
-      ∙ ap (λ (s : List Branch). b ∷ s) (append-assoc t (startsFrom G line p d (suc i)) later)
+      ap (λ (s : List BranchValue). s ++ later) (later-step _ _ i (suc-le-suc l) ∙ ap (λ (s : List BranchValue). s ++ startsFrom G line p d (suc i)) e)
+      ∙ ap (λ (s : List BranchValue). b ∷ s) (append-assoc t (startsFrom G line p d (suc i)) later)
 
   -- past the last rule
   pub from-none : (p d i : ℕ) → length (G .rules) ≤ p → from G line p d i ≡ []
@@ -118,6 +118,6 @@ module _ (G : Grammar) (line : List ℕ) (proper : Proper G) where
 
   -- the first of the middles
   pub middles-first :
-      (p d i k m : ℕ) {b : Branch} {t : List Branch} → k ≤ m → m ≤ length line → ((x j : ℕ) → k ≤ x → x < m → IsBranch G line (branchAt p d i x j) → ⊥) →
+      (p d i k m : ℕ) {b : BranchValue} {t : List BranchValue} → k ≤ m → m ≤ length line → ((x j : ℕ) → k ≤ x → x < m → IsBranch G line (branchAt p d i x j) → ⊥) →
       endsFrom G line p d i m 0 ≡ b ∷ t → middlesFrom G line p d i k ≡ b ∷ (t ++ middlesFrom G line p d i (suc m))
   middles-first p d i k m low l n e = later-at _ _ k m low (suc-le-suc l) (λ x a b. ends-none p d i x 0 (λ j c. n x j a b)) e

@@ -20,21 +20,21 @@ told-records : (a : ForestAnswer) {count : ℕ} → forestTold a ≡ told.answer
 told-records (Records x) e = cc
 told-records (Refused refusal) e = cc
 
-pub forest-unique :
+pub forest-outcome-unique :
     (g line words depths : List ℕ) (rows : List Branch) {a b : ForestAnswer} {w w′ d d′ : List ℕ} {r r′ : List Branch} →
     ForestOutcome g line words depths rows a w d r → ForestOutcome g line words depths rows b w′ d′ r′ →
     (a ≡ b) × (w ≡ w′) × (d ≡ d′) × (r ≡ r′)
-forest-unique g line words depths rows (turnedDown {refusal = x} e q w d r) (turnedDown {refusal = y} e′ q′ w′ d′ r′) =
+forest-outcome-unique g line words depths rows (turnedDown {refusal = x} e q w d r) (turnedDown {refusal = y} e′ q′ w′ d′ r′) =
     (q ∙ ap (λ (z : Refusal). Refused z) (one-refusal e e′) ∙ sym q′, w ∙ sym w′, d ∙ sym d′, r ∙ sym r′)
-forest-unique g line words depths rows (turnedDown e q w d r) (noRoom e′ l′ q′ f′ r′) = absurd (not-both e e′)
-forest-unique g line words depths rows (turnedDown e q w d r) (answered p′ t′ f′ r′) = absurd (not-both e (reported-passed (forestChecks g line words depths (length rows)) p′ .0))
-forest-unique g line words depths rows (noRoom e l q f r) (turnedDown e′ q′ w′ d′ r′) = absurd (not-both e′ e)
-forest-unique g line words depths rows (noRoom e l q f r) (noRoom e′ l′ q′ f′ r′) =
+forest-outcome-unique g line words depths rows (turnedDown e q w d r) (noRoom e′ l′ q′ f′ r′) = absurd (not-both e e′)
+forest-outcome-unique g line words depths rows (turnedDown e q w d r) (answered p′ t′ f′ r′) = absurd (not-both e (reported-passed (forestChecks g line words depths (length rows)) p′ .0))
+forest-outcome-unique g line words depths rows (noRoom e l q f r) (turnedDown e′ q′ w′ d′ r′) = absurd (not-both e′ e)
+forest-outcome-unique g line words depths rows (noRoom e l q f r) (noRoom e′ l′ q′ f′ r′) =
     let m = filled-unique (grammarGiven g) line words depths f f′ in
     (q ∙ ap (λ (z : Refusal). Refused z) (one-refusal l l′) ∙ sym q′, m .0, m .1, r ∙ sym r′)
-forest-unique g line words depths rows (noRoom e l q f r) (answered p′ t′ f′ r′) = absurd (not-both l (reported-passed (forestChecks g line words depths (length rows)) p′ .1))
-forest-unique g line words depths rows (answered p t f r) (turnedDown e′ q′ w′ d′ r′) = absurd (not-both e′ (reported-passed (forestChecks g line words depths (length rows)) p .0))
-forest-unique g line words depths rows (answered p t f r) (noRoom e′ l′ q′ f′ r′) = absurd (not-both l′ (reported-passed (forestChecks g line words depths (length rows)) p .1))
-forest-unique g line words depths rows {a} {b} (answered p t f r) (answered p′ t′ f′ r′) =
+forest-outcome-unique g line words depths rows (noRoom e l q f r) (answered p′ t′ f′ r′) = absurd (not-both l (reported-passed (forestChecks g line words depths (length rows)) p′ .1))
+forest-outcome-unique g line words depths rows (answered p t f r) (turnedDown e′ q′ w′ d′ r′) = absurd (not-both e′ (reported-passed (forestChecks g line words depths (length rows)) p .0))
+forest-outcome-unique g line words depths rows (answered p t f r) (noRoom e′ l′ q′ f′ r′) = absurd (not-both l′ (reported-passed (forestChecks g line words depths (length rows)) p .1))
+forest-outcome-unique g line words depths rows {a} {b} (answered p t f r) (answered p′ t′ f′ r′) =
     let m = filled-unique (grammarGiven g) line words depths f f′ in
     (told-records a t ∙ sym (told-records b t′), m .0, m .1, r ∙ sym r′)

@@ -10,10 +10,11 @@ use Rattle.derivation.specs.Branch as derivation
 use Rattle.grammar.specs.Given.{grammarGiven}
 use Rattle.forest.specs.declared.Branch.{Branch}
 use Rattle.forest.specs.declared.Cursor.{Cursor}
-use Rattle.forest.specs.Charted.{Charted}
-use Rattle.forest.specs.Rest.{rest, records}
-use Rattle.forest.specs.Cursor.{branchOf, Stood, Follows}
-use Rattle.forest.specs.Writing.{written, writtenFrom, Writes}
+use Rattle.forest.specs.inner.Charted.{Charted}
+use Rattle.forest.specs.inner.Rest.{rest, records}
+use Rattle.forest.specs.inner.Cursor.{branchOf, Stood, Follows}
+use Rattle.forest.specs.inner.Writing.{writtenFrom, Writes}
+use Rattle.forest.specs.Record.{recordOf}
 
 -- the first i of the records l laid over ys; x is there for a record that is not
 unfoldable pub laid : List Branch → Branch → ℕ → List Branch → List Branch
@@ -39,7 +40,7 @@ laid-is l x (suc i) ys h k =
     rw (ih, drop-cons ys i x (omega arith), set-at (take i l) (getD ys i x) (drop (suc i) ys) (getD l i x) i (length-first l x i (omega arith)), take-suc l i x (omega arith), append-assoc)
 
 module _ (g line words : List ℕ) (b : Cursor) (n : ℕ) where
-  abbrev all : List derivation.Branch
+  abbrev all : List derivation.BranchValue
   all = records (grammarGiven g) line (branchOf (b .branch))
 
   -- the cursor e is at record i, if that is to be written
@@ -52,14 +53,14 @@ module _ (g line words : List ℕ) (b : Cursor) (n : ℕ) where
       where
         go : (n : ℕ) → (0 < n → Writes g line words b n) → n ≤ length (writtenFrom g line b)
         go zero w = zero-le
-        go (suc k) w = omega (arith, w (omega arith) .enough, length-map all written)
+        go (suc k) w = omega (arith, w (omega arith) .enough, length-map all recordOf)
 
     pub reached-first : Reached 0 b
     reached-first = record { at = λ l. let w = writes l in (w .charted, w .stood, refl) }
 
     module _ (i : ℕ) (e : Cursor) (l : i < n) (r : Reached i e) where
       inside : i < length all
-      inside = omega (arith, enough, length-map all written)
+      inside = omega (arith, enough, length-map all recordOf)
 
       here : getD all i (branchOf (b .branch)) ∷ drop (suc i) all ≡ records (grammarGiven g) line (branchOf (e .branch))
       here = sym (drop-cons all i (branchOf (b .branch)) inside) ∙ r .at l .2
@@ -68,7 +69,7 @@ module _ (g line words : List ℕ) (b : Cursor) (n : ℕ) where
       pub reached-record : e .branch ≡ getD (writtenFrom g line b) i (b .branch)
       reached-record =
           let same : getD all i (branchOf (b .branch)) ≡ branchOf (e .branch) = cc here in
-          sym (List·getD-map written all i (branchOf (b .branch)) ∙ ap written same)
+          sym (List·getD-map recordOf all i (branchOf (b .branch)) ∙ ap recordOf same)
 
       pub reached-next : (c : Cursor) → Follows g line e c → Reached (suc i) c
       reached-next c f = record { at = λ h. go h f }
@@ -78,6 +79,6 @@ module _ (g line words : List ℕ) (b : Cursor) (n : ℕ) where
 
           go : suc i < n → Follows g line e c → Charted g line words × Stood g line c × (drop (suc i) all ≡ records (grammarGiven g) line (branchOf (c .branch)))
           go h (inl none) =
-              let short : length (drop (suc i) all) ≡ 0 = ap (λ (k : List derivation.Branch). length k) (after ∙ none) in
-              absurd (omega (arith, short, length-drop (suc i) all, enough, length-map all written))
+              let short : length (drop (suc i) all) ≡ 0 = ap (λ (k : List derivation.BranchValue). length k) (after ∙ none) in
+              absurd (omega (arith, short, length-drop (suc i) all, enough, length-map all recordOf))
           go h (inr k) = (r .at l .0, k .1, after ∙ k .0)

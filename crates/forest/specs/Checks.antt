@@ -8,7 +8,7 @@ use Rattle.refusals.specs.declared.Check.{Check}
 use Rattle.refusals.specs.declared.Check.the-variants.{Passed}
 use Rattle.refusals.specs.Order.{Checks}
 use Rattle.derivation.specs.Grammar.{Grammar}
-use Rattle.derivation.specs.Forest.{forest}
+use Rattle.derivation.specs.computed.Forest.{forest}
 use Rattle.checks.specs.declared.Asked.the-variants.{Nothing}
 use Rattle.checks.specs.Question.{refuseIf}
 use Rattle.grammar.specs.Given.{grammarGiven}

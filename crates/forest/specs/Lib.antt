@@ -1,10 +1,5 @@
-pub mod Charted
-pub mod Ends
-pub mod Count
-pub mod Rest
-pub mod Cursor
+pub mod Record
 pub mod Checks
 pub mod Told
-pub mod Planned
-pub mod Writing
 pub mod Outcome
+pub mod inner

@@ -7,7 +7,7 @@ use Rattle.refusals.specs.declared.Refusal.{Refusal}
 use Rattle.refusals.specs.declared.Check.the-variants as check
 use Rattle.refusals.specs.Order.{early, late, reported}
 use Rattle.refusals.specs.Told as told
-use Rattle.derivation.specs.Forest.{forest}
+use Rattle.derivation.specs.computed.Forest.{forest}
 use Rattle.grammar.specs.Given.{grammarGiven}
 use Rattle.filling.specs.Filled.{WorkFilled}
 use Rattle.forest.specs.declared.Branch.{Branch}
@@ -15,7 +15,7 @@ use Rattle.forest.specs.declared.ForestAnswer.{ForestAnswer}
 use Rattle.forest.specs.declared.ForestAnswer.the-variants as variants
 use Rattle.forest.specs.Checks.{recordCount, forestChecks}
 use Rattle.forest.specs.Told.{forestTold}
-use Rattle.forest.specs.Writing.{written}
+use Rattle.forest.specs.Record.{recordOf}
 
 pub data ForestOutcome (g line words depths : List ℕ) (rows : List Branch) (answer : ForestAnswer) (words′ depths′ : List ℕ) (rows′ : List Branch) : Type 0 where
   -- 1 to 9 and 12: the first refusal is the answer, and no lent memory changes
@@ -35,5 +35,5 @@ pub data ForestOutcome (g line words depths : List ℕ) (rows : List Branch) (an
       reported (forestChecks g line words depths (length rows)) ≡ check.Passed →
       forestTold answer ≡ told.answered (recordCount (grammarGiven g) line ∷ []) →
       WorkFilled (grammarGiven g) line words depths words′ depths′ →
-      rows′ ≡ map written (forest (grammarGiven g) line) ++ drop (recordCount (grammarGiven g) line) rows →
+      rows′ ≡ map recordOf (forest (grammarGiven g) line) ++ drop (recordCount (grammarGiven g) line) rows →
       ForestOutcome g line words depths rows answer words′ depths′ rows′

@@ -2,11 +2,11 @@
 ghost use mathlib.Core.Path.{_≡_};
 ghost use Prim.Native.Nat.{_≤_, _<_};
 ghost use lib.ListN.{length};
-ghost use Rattle.derivation.specs.Forest.{forest};
+ghost use Rattle.derivation.specs.computed.Forest.{forest};
 ghost use Rattle.grammar.specs.Value.{standing};
 ghost use Rattle.grammar.specs.Given.{sectionsGiven, grammarGiven};
-ghost use Rattle.forest.specs.Charted.{Charted, Standing};
-ghost use Rattle.forest.specs.Count.{startCount, placeCount, ruleCount};
+ghost use Rattle.forest.specs.inner.Charted.{Charted, Standing};
+ghost use Rattle.forest.specs.inner.Count.{startCount, placeCount, ruleCount};
 use super::ends::prefix_ends;
 use super::ends::symbol_ends;
 use grammar::reading::Sections;

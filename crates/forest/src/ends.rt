@@ -3,8 +3,8 @@ ghost use Prim.Native.Nat.{ℕ, _≤_, _<_};
 ghost use lib.ListN.{length};
 ghost use Rattle.positions.specs.Member.{Member};
 ghost use Rattle.grammar.specs.Value.{standing};
-ghost use Rattle.forest.specs.Charted.{Charted, Standing};
-ghost use Rattle.forest.specs.Ends.{SymbolEnds, StepEnds, PrefixEnds};
+ghost use Rattle.forest.specs.inner.Charted.{Charted, Standing};
+ghost use Rattle.forest.specs.inner.Ends.{SymbolEnds, StepEnds, PrefixEnds};
 use grammar::rules::rule_symbols;
 
 // The ends of symbol d, counted from 0, from m.

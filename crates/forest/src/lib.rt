@@ -3,10 +3,10 @@ ghost use mathlib.Core.Path.{_≡_};
 ghost use mathlib.Core.List.{_++_};
 ghost use Prim.Native.Nat.{_≤_, _<_};
 ghost use lib.ListN.{length, take, drop};
-ghost use Rattle.forest.specs.Charted.{Charted};
-ghost use Rattle.forest.specs.Cursor.{Stood, Follows};
-ghost use Rattle.forest.specs.Planned.{Planned};
-ghost use Rattle.forest.specs.Writing.{writtenFrom, Writes};
+ghost use Rattle.forest.specs.inner.Charted.{Charted};
+ghost use Rattle.forest.specs.inner.Cursor.{Stood, Follows};
+ghost use Rattle.forest.specs.inner.Planned.{Planned};
+ghost use Rattle.forest.specs.inner.Writing.{writtenFrom, Writes};
 ghost use Rattle.forest.specs.Outcome.{ForestOutcome};
 
 mod ends; // ends.rt: where a symbol and where a rule's first symbols can end

@@ -16,7 +16,7 @@ use Rattle.grammar.specs.declared.reading.Pass.{Pass}
 use Rattle.grammar.specs.declared.reading.Pass.the-variants.{To, Stop}
 use Rattle.grammar.specs.declared.reading.Reading.{Reading}
 use Rattle.grammar.specs.declared.reading.Reading.the-variants.{Accepted, Refused}
-use Rattle.grammar.specs.Reading.{byte, andThen, eachFrom, isFlag, isSymbol, ruleFrom, rulesFrom, flagsSection, rulesSection, onward, sectionsAt, sectionsOf, nothingAfter, readOf}
+use Rattle.grammar.specs.Reading.{byte, thenRead, eachFrom, isFlag, isSymbol, ruleFrom, rulesFrom, flagsSection, rulesSection, onward, sectionsAt, sectionsOf, nothingAfter, readOf}
 use Rattle.grammar.specs.Value.{Sectioned, standing, after, rulesAt, startOf, grammarOf, Stands, Found}
 use Rattle.grammar.proofs.Parts.{part-length, part-at}
 use Rattle.grammar.proofs.ReadingLaws.{must-to, flags-section-to, rules-section-to, rules-step}
@@ -70,7 +70,7 @@ module _ (g : List ℕ) (t n : ℕ) where
       let s = each-to (isSymbol t n) _ g (byte g (at + 1)) (at + 2) next (omega arith) (d .1) in
       (s .past, record { stands = record { inside = omega (arith, s .past, s .inside); long = leb-true _ _ (d .0) }; left = ltb-true _ _ (b .0); symbols = s .good })
 
-  and-to : (p : Pass) (go : ℕ → Pass) (end : ℕ) → andThen p go ≡ To end → (next : ℕ) × (p ≡ To next) × (go next ≡ To end)
+  and-to : (p : Pass) (go : ℕ → Pass) (end : ℕ) → thenRead p go ≡ To end → (next : ℕ) × (p ≡ To next) × (go next ≡ To end)
   and-to (To at) go end e = (at, refl, e)
   and-to (Stop refusal) go end e = absurd (never e)
     where

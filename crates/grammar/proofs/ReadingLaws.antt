@@ -12,7 +12,7 @@ use Rattle.grammar.specs.declared.reading.Sections.{Sections}
 use Rattle.grammar.specs.declared.reading.Pass.{Pass}
 use Rattle.grammar.specs.declared.reading.Pass.the-variants.{To, Stop}
 use Rattle.grammar.specs.declared.reading.Reading.the-variants.{Accepted, Refused}
-use Rattle.grammar.specs.Reading.{byte, have, must, andThen, eachFrom, flagsFrom, ruleFrom, rulesFrom, flagsSection, rulesSection, sectionsAt, sectionsOf, readOf}
+use Rattle.grammar.specs.Reading.{byte, have, must, thenRead, eachFrom, flagsFrom, ruleFrom, rulesFrom, flagsSection, rulesSection, sectionsAt, sectionsOf, readOf}
 
 -- a number above 0 is one more than the number before it
 one-more : (n : ℕ) → 0 < n → n ≡ suc (n - 1)
@@ -37,7 +37,7 @@ module _ (ok : ℕ → Bool) (fault : ℕ → Refusal) (g : List ℕ) where
   each-more count at h l e = each-step count at h ∙ rw (lt-ltb at (length g) l, e)
 
 module _ (g : List ℕ) (t n : ℕ) where
-  pub rules-step : (count at : ℕ) → 0 < count → rulesFrom g t n count at ≡ andThen (ruleFrom g t n at) (λ next. rulesFrom g t n (count - 1) next)
+  pub rules-step : (count at : ℕ) → 0 < count → rulesFrom g t n count at ≡ thenRead (ruleFrom g t n at) (λ next. rulesFrom g t n (count - 1) next)
   unfolding rulesFrom
   rules-step count at h = ap (λ (k : ℕ). rulesFrom g t n k at) (one-more count h)
 

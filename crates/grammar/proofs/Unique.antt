@@ -7,7 +7,7 @@ use native.Mathlib.Decide.{decLe}
 use lib.ListN.{getD}
 use lib.Seq.{ext-getD}
 use Rattle.grammar.specs.declared.reading.Sections.{Sections}
-use Rattle.grammar.specs.Starts.{Starts}
+use Rattle.grammar.specs.inner.Starts.{Starts}
 
 -- there is one table of where the rules stand
 pub starts-unique : (g : List ℕ) (s : Sections) (a b : List ℕ) → Starts g s a → Starts g s b → a ≡ b

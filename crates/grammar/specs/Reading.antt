@@ -24,9 +24,9 @@ have g at go = cond (ltb at (length g)) go (Stop (GrammarEndsEarly (length g)))
 abbrev pub must : Bool → Refusal → Pass → Pass
 must ok refusal go = cond ok go (Stop refusal)
 
-abbrev pub andThen : Pass → (ℕ → Pass) → Pass
-andThen (To at) go = go at
-andThen (Stop refusal) go = Stop refusal
+abbrev pub thenRead : Pass → (ℕ → Pass) → Pass
+thenRead (To at) go = go at
+thenRead (Stop refusal) go = Stop refusal
 
 -- as many bytes as `count`, each of which passes the test or else is refused with its position
 unfoldable pub eachFrom : (ℕ → Bool) → (ℕ → Refusal) → List ℕ → ℕ → ℕ → Pass
@@ -58,7 +58,7 @@ ruleFrom g t n at =
 
 unfoldable pub rulesFrom : List ℕ → ℕ → ℕ → ℕ → ℕ → Pass
 rulesFrom g t n zero at = To at
-rulesFrom g t n (suc count) at = andThen (ruleFrom g t n at) (λ next. rulesFrom g t n count next)
+rulesFrom g t n (suc count) at = thenRead (ruleFrom g t n at) (λ next. rulesFrom g t n count next)
 
 -- a section of flags: its count, 1 to `most`, and as many flags
 unfoldable pub flagsSection : List ℕ → ℕ → ℕ → Pass

@@ -3,7 +3,7 @@ ghost use mathlib.Core.Path.{_≡_};
 ghost use Prim.Native.Nat.{_<_, _≤_};
 ghost use lib.ListN.{length, getD};
 ghost use Rattle.grammar.specs.Value.{Sectioned, Stands, standing, after, grammarOf};
-ghost use Rattle.grammar.specs.Starts.{Starts};
+ghost use Rattle.grammar.specs.inner.Starts.{Starts};
 use super::reading::Sections;
 
 // The left category of the rule that stands at a position.

@@ -1,7 +1,7 @@
 // The checked grammar as a view of the caller's own bytes: its three counts and its section offsets stand beside them, and nothing is copied.
 ghost use mathlib.Core.Path.{_≡_};
 ghost use Rattle.grammar.specs.Value.{Sectioned};
-ghost use Rattle.grammar.specs.Starts.{Starts};
+ghost use Rattle.grammar.specs.inner.Starts.{Starts};
 ghost use Rattle.grammar.specs.View.{viewOf, sectionsBeside};
 use super::reading::Sections;
 use super::rules::rule_starts;

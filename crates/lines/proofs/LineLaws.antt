@@ -7,7 +7,7 @@ use native.Mathlib.Omega.{arith}
 use lib.ListN.{length, getD, length-append}
 use Rattle.lines.specs.Decimal.{digitCode, decimal}
 use Rattle.lines.specs.Lines.{text, spaced, lineOf, numbered, roundsAndFacts, marksOf}
-use Rattle.lines.specs.Listing.{depthLine, factLineAt, nodeLineAt}
+use Rattle.lines.specs.inner.Listing.{depthLine, factLineAt, nodeLineAt}
 use Rattle.lines.proofs.DecimalLaws.{tens, decimal-few}
 
 pub line-long : (word fields : List ℕ) → length (word ++ (fields ++ (10 ∷ []))) ≡ length word + (length fields + 1)

@@ -7,11 +7,11 @@ use native.Mathlib.Nat.{zero-add, add-zero, add-suc, suc-add, mul-le-mul-left}
 use native.Mathlib.Omega.{arith}
 use lib.ListN.{length, getD, length-append, length-map, take, drop, set, take-append-drop}
 use lib.Seq.{take-suc, sets-eq, length-take-le}
-use Rattle.derivation.specs.Listing.{listed, gathered}
+use Rattle.derivation.specs.computed.Listing.{listed, gathered}
 use Rattle.tree.specs.Bytes.{wrote}
 use Rattle.tree.proofs.ByteLaws.{length-wrote, wrote-none, wrote-more}
 use Rattle.lines.specs.Decimal.{digitCode, decimal}
-use Rattle.lines.specs.Stored.{Stored}
+use Rattle.lines.specs.inner.Stored.{Stored}
 use Rattle.lines.specs.Lines.{spaced}
 
 pub stored-none : (row : List ℕ) (at : ℕ) → Stored row at [] row at

@@ -1,4 +1,3 @@
-pub mod Stored
 pub mod Decimal
 pub mod Lines
-pub mod Listing
+pub mod inner

@@ -3,7 +3,7 @@ ghost use mathlib.Core.Path.{_≡_};
 ghost use Prim.Native.Nat.{_+_, _≤_};
 ghost use lib.ListN.{length};
 ghost use Rattle.lines.specs.Decimal.{decimal};
-ghost use Rattle.lines.specs.Stored.{Stored};
+ghost use Rattle.lines.specs.inner.Stored.{Stored};
 
 // How many digits a number has.
 pub fn digit_count(n: usize) -> usize

@@ -2,11 +2,11 @@
 ghost use mathlib.Core.List.{map};
 ghost use Prim.Native.Nat.{ℕ, _+_, _*_, _≤_, _<_};
 ghost use lib.ListN.{length, getD, take};
-ghost use Rattle.derivation.specs.Listing.{gathered};
+ghost use Rattle.derivation.specs.computed.Listing.{gathered};
 ghost use Rattle.lines.specs.Decimal.{digitCode};
-ghost use Rattle.lines.specs.Stored.{Stored};
+ghost use Rattle.lines.specs.inner.Stored.{Stored};
 ghost use Rattle.lines.specs.Lines.{marksOf};
-ghost use Rattle.lines.specs.Listing.{depthLine, factLineAt, nodeLineAt};
+ghost use Rattle.lines.specs.inner.Listing.{depthLine, factLineAt, nodeLineAt};
 use super::writing::write_byte;
 use super::writing::write_bytes;
 use super::writing::write_line;

@@ -4,7 +4,7 @@ ghost use mathlib.Core.List.{_∷_, [], _++_, map};
 ghost use Prim.Native.Nat.{_+_, _≤_};
 ghost use lib.ListN.{length};
 ghost use Rattle.lines.specs.Decimal.{decimal};
-ghost use Rattle.lines.specs.Stored.{Stored};
+ghost use Rattle.lines.specs.inner.Stored.{Stored};
 ghost use Rattle.lines.specs.Lines.{spaced, roundsAndFacts};
 use super::decimal::write_decimal;
 

@@ -13,9 +13,10 @@ use Rattle.derivation.specs.Grammar.{Grammar, Proper}
 use Rattle.derivation.specs.Fact.{Fact}
 use Rattle.derivation.specs.Secret.{Secret, byClass, byFact}
 use Rattle.derivation.proofs.Totals.{total-same}
-use Rattle.derivation.specs.FactCount.{total}
+use Rattle.derivation.specs.computed.FactCount.{total}
 use Rattle.derivation.proofs.Bound.{tree-category}
-use Rattle.marks.specs.Marks.{MarkIs, marked, unmarked, MarksAre, ChartHolds, Reaches}
+use Rattle.marks.specs.Marks.{MarkIs, marked, unmarked, MarksAre}
+use Rattle.marks.specs.inner.Reach.{ChartHolds, ReachIs}
 use Rattle.marks.proofs.ReachLaws.{BeforeEnd}
 
 total-next : (f : ℕ → ℕ) (n : ℕ) → total f (n + 1) ≡ total f n + f n
@@ -47,7 +48,7 @@ module _ {G : Grammar} {line : List ℕ} where
 
   -- with the spans that begin at the token
   module _ (words : List ℕ) (token reach reach′ : ℕ) (l : token < length line) (proper : Proper G) (chart : ChartHolds G line words)
-      (old : SpansReach G line token reach) (new : Reaches G words (length line + 1) token reach reach′) where
+      (old : SpansReach G line token reach) (new : ReachIs G words (length line + 1) token reach reach′) where
     abbrev Here : ℕ → Type 0
     Here t = BeforeEnd G words (length line + 1) token (length (G .categories)) t
 

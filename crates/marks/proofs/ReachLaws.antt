@@ -10,20 +10,20 @@ use Rattle.positions.specs.Member.{Member}
 use Rattle.positions.specs.Last.{Last}
 use Rattle.positions.proofs.Members.{none-member}
 use Rattle.derivation.specs.Grammar.{Grammar}
-use Rattle.marks.specs.Marks.{RowReaches}
+use Rattle.marks.specs.inner.Reach.{RowReachIs}
 
 -- a row without members, and one whose largest member is `last`
-pub row-empty : (far : ℕ) → RowReaches 0 far far
+pub row-empty : (far : ℕ) → RowReachIs 0 far far
 row-empty far t = (inl, ⊎-elim (λ h. h) (λ m. absurd (none-member (m .0) (m .1))))
 
 module _ (row far last : ℕ) (l : Last row last) where
   before-last : (t : ℕ) → (j : ℕ) × Member row j × (t < j) → t < last
   before-last t m = let n : last < m .0 → ⊥ = λ h. l .noneAbove (m .0) h (m .1) in omega (arith, m .2)
 
-  pub row-further : far < last → RowReaches row far last
+  pub row-further : far < last → RowReachIs row far last
   row-further h t = (λ k. inr (last, l .found, k), ⊎-elim (λ k. omega arith) (before-last t))
 
-  pub row-nearer : last ≤ far → RowReaches row far far
+  pub row-nearer : last ≤ far → RowReachIs row far far
   row-nearer h t = (inl, ⊎-elim (λ k. k) (λ m. omega (arith, before-last t m)))
 
 -- t is before an end from the start of a secret category below k
@@ -60,7 +60,7 @@ module _ (G : Grammar) (words : List ℕ) (width start far : ℕ) where
     )
 
     -- category k is secret
-    pub reach-secret : (r′ : ℕ) → getD (G .categories) k 0 ≡ 1 → RowReaches (getD words (k * width + start) 0) r r′ → ReachesBelow G words width start (k + 1) far r′
+    pub reach-secret : (r′ : ℕ) → getD (G .categories) k 0 ≡ 1 → RowReachIs (getD words (k * width + start) 0) r r′ → ReachesBelow G words width start (k + 1) far r′
     reach-secret r′ flag row t = (
       λ h. ⊎-elim (λ y. ⊎-elim inl (λ b. inr (more t b)) (x t .0 y)) (λ m. inr (k, m .0, omega arith, flag, m .1, m .2)) (row t .0 h),
       ⊎-elim (λ h. row t .1 (inl (x t .1 (inl h))))

@@ -10,8 +10,8 @@ use lib.ListN.{length, getD, take}
 use lib.Seq.{ext-getD, length-take-le, getD-take}
 use Rattle.derivation.specs.Grammar.{Grammar, Proper}
 use Rattle.derivation.specs.Secret.{Secret}
-use Rattle.derivation.specs.Listing.{listed}
-use Rattle.derivation.specs.Marks as computed
+use Rattle.derivation.specs.computed.Listing.{listed}
+use Rattle.derivation.specs.computed.Marks as computed
 use Rattle.derivation.proofs.Table.{at-listed}
 use Rattle.derivation.proofs.Secret.{secret-iff}
 use Rattle.marks.specs.Marks.{MarkIs, marked, unmarked, MarksAre}

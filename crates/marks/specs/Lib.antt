@@ -1,3 +1,4 @@
 pub mod Marks
 pub mod Told
 pub mod Outcome
+pub mod inner

@@ -3,7 +3,8 @@ ghost use Prim.Native.Nat.{_*_, _≤_, _<_};
 ghost use lib.ListN.{length};
 ghost use Rattle.checks.specs.Line.{IsLine};
 ghost use Rattle.grammar.specs.Value.{Sectioned, grammarOf};
-ghost use Rattle.marks.specs.Marks.{ChartHolds, RowReaches, Reaches, MarksAre};
+ghost use Rattle.marks.specs.Marks.{MarksAre};
+ghost use Rattle.marks.specs.inner.Reach.{ChartHolds, RowReachIs, ReachIs};
 ghost use Rattle.marks.specs.Outcome.{MarksOutcome};
 use chart::work::checked;
 use checks::Asked;
@@ -22,7 +23,7 @@ pub enum MarksAnswer {
 
 // How far the ends of a row reach, or `far` where that is further.
 fn reach_of(row: u64, far: usize) -> usize
-    ensures { λ r. ⌜ RowReaches row far r ⌝ }
+    ensures { λ r. ⌜ RowReachIs row far r ⌝ }
 {
     if row == 0 {
         return far;
@@ -37,7 +38,7 @@ fn reach_of(row: u64, far: usize) -> usize
 // How far the spans of secret categories reach that begin at the start, or `far` where that is further.
 fn reach_from(g: &[u8], s: Sections, words: &[u64], width: usize, start: usize, far: usize) -> usize
     requires { ⌜ Sectioned (now g) s × (s .categories * width ≤ length (now words)) × (start < width) × (width ≤ 64) ⌝ }
-    ensures { λ r. ⌜ Reaches (grammarOf (now (g .entry)) s) (now (words .entry)) width start far r ⌝ }
+    ensures { λ r. ⌜ ReachIs (grammarOf (now (g .entry)) s) (now (words .entry)) width start far r ⌝ }
 {
     let categories = s.categories;
     let mut reach = far;

@@ -11,10 +11,10 @@ use Rattle.refusals.specs.declared.Refusal.the-variants.{TreeTooSmall}
 use Rattle.refusals.specs.declared.Check.the-variants as check
 use Rattle.refusals.specs.Order.{early, late, reported}
 use Rattle.derivation.specs.Grammar.{Proper}
-use Rattle.derivation.specs.RoundsOf.{roundsOf}
-use Rattle.derivation.specs.FactCount.{factCount}
-use Rattle.derivation.specs.Marks as computed
-use Rattle.derivation.specs.Shown.{shown}
+use Rattle.derivation.specs.computed.RoundsOf.{roundsOf}
+use Rattle.derivation.specs.computed.FactCount.{factCount}
+use Rattle.derivation.specs.computed.Marks as computed
+use Rattle.derivation.specs.computed.Shown.{shown}
 use Rattle.checks.specs.declared.Asked.the-variants.{Nothing}
 use Rattle.checks.proofs.Laws.{both-passed, no-fault, not-both, reported-passed}
 use Rattle.grammar.specs.declared.reading.Sections.{Sections}

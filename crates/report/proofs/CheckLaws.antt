@@ -11,7 +11,7 @@ use Rattle.grammar.specs.declared.reading.Sections.{Sections}
 use Rattle.grammar.specs.declared.reading.Reading.the-variants.{Refused}
 use Rattle.grammar.specs.Reading.{readOf}
 use Rattle.grammar.specs.Given.{grammarGiven}
-use Rattle.chart.specs.Checked.{checkedOf}
+use Rattle.chart.specs.inner.Checked.{checkedOf}
 use Rattle.chart.specs.Checks.{chartChecks}
 use Rattle.chart.proofs.CheckLaws.{Passes, checked-refused, early-passed}
 use Rattle.report.specs.Printed.{lentWords, lentDepths}

@@ -5,16 +5,16 @@ use mathlib.Core.Path.{_≡_, refl}
 use mathlib.Core.List.{List, [], _∷_, flatten}
 use lib.ListN.{length}
 use borrow.Author.Tests.{lt-ltb}
-use Rattle.derivation.specs.Search.{some, firstFrom}
-use Rattle.derivation.specs.Listing.{listed, gathered, kept}
-use Rattle.derivation.specs.Round.{tokenIs, child, children, round}
-use Rattle.derivation.specs.Table.{table, isFound, seen, grade, depths, depthOf}
-use Rattle.derivation.specs.RoundsOf.{greatest, roundsOf}
-use Rattle.derivation.specs.Facts.{facts}
-use Rattle.derivation.specs.FactCount.{total, factCount}
-use Rattle.derivation.specs.FactList.{factList}
-use Rattle.derivation.specs.Marks.{covered, secret, marks}
-use Rattle.derivation.specs.Shown.{below, chosenRule, chosenEnd, chosenRow, chosen, shown}
+use Rattle.derivation.specs.computed.Search.{some, firstFrom}
+use Rattle.derivation.specs.computed.Listing.{listed, gathered, kept}
+use Rattle.derivation.specs.computed.Round.{tokenIs, child, children, round}
+use Rattle.derivation.specs.computed.Table.{table, isFound, seen, grade, depths, depthOf}
+use Rattle.derivation.specs.computed.RoundsOf.{greatest, roundsOf}
+use Rattle.derivation.specs.computed.Facts.{facts}
+use Rattle.derivation.specs.computed.FactCount.{total, factCount}
+use Rattle.derivation.specs.computed.Facts.{factList}
+use Rattle.derivation.specs.computed.Marks.{covered, secret, marks}
+use Rattle.derivation.specs.computed.Shown.{below, chosenRule, chosenEnd, chosenRow, chosen, shown}
 use Rattle.checks.specs.Line.{tokensFrom, lineCheck}
 use Rattle.checks.specs.Question.{startCheck, spanCheck}
 use Rattle.grammar.specs.Reading.{eachFrom, ruleFrom, rulesFrom, flagsSection, rulesSection, sectionsOf, readOf}

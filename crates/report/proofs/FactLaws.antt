@@ -7,13 +7,13 @@ use native.Mathlib.Nat.{mul-add-div-right, mul-add-mod-self-right, mod-eq-of-lt,
 use native.Mathlib.Omega.{arith}
 use lib.ListN.{length, getD}
 use Rattle.derivation.specs.Grammar.{Grammar, Proper}
-use Rattle.derivation.specs.Listing.{gathered, kept}
-use Rattle.derivation.specs.Table.{isFound, depthOf}
-use Rattle.derivation.specs.Facts.{facts}
-use Rattle.derivation.specs.FactList.{factList}
+use Rattle.derivation.specs.computed.Listing.{gathered, kept}
+use Rattle.derivation.specs.computed.Table.{isFound, depthOf}
+use Rattle.derivation.specs.computed.Facts.{facts}
+use Rattle.derivation.specs.computed.Facts.{factList}
 use Rattle.derivation.proofs.Table.{depthOf-is, depthIs-unique}
 use Rattle.filling.specs.Filled.{WorkFilled}
-use Rattle.lines.specs.Listing.{depthLine, factLineAt}
+use Rattle.lines.specs.inner.Listing.{depthLine, factLineAt}
 use Rattle.report.specs.Printed.{factLine, factLines}
 use Rattle.report.proofs.GatherLaws.{gathered-same, gathered-rows, map-gathered}
 

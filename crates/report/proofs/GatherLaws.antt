@@ -5,7 +5,7 @@ use mathlib.Core.List.{List, [], _∷_, _++_, append-assoc, map, map-append, fla
 use native.Mathlib.Numerals.{add-one}
 use native.Mathlib.Nat.{add-zero, zero-add, add-suc, suc-add, zero-mul, suc-mul}
 use native.Mathlib.Omega.{arith}
-use Rattle.derivation.specs.Listing.{listed, gathered}
+use Rattle.derivation.specs.computed.Listing.{listed, gathered}
 use Rattle.lines.proofs.WriteLaws.{gathered-none, gathered-more}
 
 module _ {X : Type 0} where

@@ -19,7 +19,7 @@ use Rattle.grammar.specs.Given.{grammarGiven}
 use Rattle.grammar.specs.Reading.{byte}
 use Rattle.chart.specs.Checks.{chartChecks}
 use Rattle.tree.specs.Bytes.{wrote}
-use Rattle.lines.specs.Stored.{Stored}
+use Rattle.lines.specs.inner.Stored.{Stored}
 use Rattle.lines.proofs.WriteLaws.{stored-none}
 use Rattle.report.specs.declared.Piece.{Piece}
 use Rattle.report.specs.declared.job.Job.{Job}

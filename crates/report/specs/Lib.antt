@@ -2,4 +2,4 @@ pub mod Job
 pub mod JobEncoding
 pub mod Printed
 pub mod Yielded
-pub mod Checked
+pub mod inner

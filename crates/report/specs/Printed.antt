@@ -8,13 +8,14 @@ use Rattle.refusals.specs.declared.Check.the-variants as check
 use Rattle.refusals.specs.Row.{rowOf}
 use Rattle.refusals.specs.Order.{reported}
 use Rattle.derivation.specs.Grammar.{Grammar}
-use Rattle.derivation.specs.Table.{depthOf}
-use Rattle.derivation.specs.RoundsOf.{roundsOf}
-use Rattle.derivation.specs.FactCount.{factCount}
-use Rattle.derivation.specs.FactList.{Span, spanNumbers, factList}
-use Rattle.derivation.specs.Marks.{marks}
-use Rattle.derivation.specs.Node.{Node}
-use Rattle.derivation.specs.Shown.{shown}
+use Rattle.derivation.specs.computed.Table.{depthOf}
+use Rattle.derivation.specs.computed.RoundsOf.{roundsOf}
+use Rattle.derivation.specs.computed.FactCount.{factCount}
+use Rattle.derivation.specs.FactList.{Span, spanNumbers}
+use Rattle.derivation.specs.computed.Facts.{factList}
+use Rattle.derivation.specs.computed.Marks.{marks}
+use Rattle.derivation.specs.Node.{NodeValue}
+use Rattle.derivation.specs.computed.Shown.{shown}
 use Rattle.grammar.specs.Given.{grammarGiven}
 use Rattle.chart.specs.Checks.{chartChecks}
 use Rattle.tree.specs.Checks.{treeChecks}
@@ -55,7 +56,7 @@ unfoldable pub marksLine : Grammar → List ℕ → List ℕ
 marksLine G line = marksOf (marks G line)
 
 -- node kind number start end
-unfoldable pub nodeLine : Node → List ℕ
+unfoldable pub nodeLine : NodeValue → List ℕ
 nodeLine x = numbered "node" (x .kind ∷ x .number ∷ x .start ∷ x .end ∷ [])
 
 -- a refusal's line in place of these, or else these

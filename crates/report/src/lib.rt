@@ -3,7 +3,7 @@ ghost use Prim.Native.Nat.{_≤_};
 ghost use lib.ListN.{length};
 ghost use mathlib.Core.List.{_∷_, []};
 ghost use Rattle.report.specs.Job.{questionsOf};
-ghost use Rattle.report.specs.Checked.{JobPasses};
+ghost use Rattle.report.specs.inner.Checked.{JobPasses};
 ghost use Rattle.report.specs.Printed.{refusedLine, answerPieces, chartPieces, pieces};
 ghost use Rattle.report.specs.Yielded.{Yielded};
 

@@ -48,12 +48,12 @@ wrote-more row at xs ys h =
     rw (e₁, e₃, append-assoc, append-assoc, length-append, add-assoc)
 
 -- the bytes of nodes are four for each, and those of two lists stand one after the other
-pub bytes-four : (nodes : List derivation.Node) → length (bytes nodes) ≡ length nodes * 4
+pub bytes-four : (nodes : List derivation.NodeValue) → length (bytes nodes) ≡ length nodes * 4
 unfolding bytes
 bytes-four [] = refl
 bytes-four (x ∷ nodes) = let e = bytes-four nodes in omega arith
 
-pub bytes-append : (xs ys : List derivation.Node) → bytes (xs ++ ys) ≡ bytes xs ++ bytes ys
+pub bytes-append : (xs ys : List derivation.NodeValue) → bytes (xs ++ ys) ≡ bytes xs ++ bytes ys
 unfolding bytes
 bytes-append [] ys = refl
 bytes-append (x ∷ xs) ys = ap (λ (l : List ℕ). nodeBytes x ++ l) (bytes-append xs ys)

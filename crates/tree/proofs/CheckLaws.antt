@@ -10,11 +10,11 @@ use Rattle.grammar.specs.declared.reading.Reading.the-variants.{Accepted}
 use Rattle.grammar.specs.Reading.{readOf}
 use Rattle.grammar.specs.Value.{grammarOf}
 use Rattle.grammar.specs.Given.{grammarGiven}
-use Rattle.grammar.specs.Starts.{Starts}
+use Rattle.grammar.specs.inner.Starts.{Starts}
 use Rattle.grammar.proofs.Accepted.{accepted, whole}
 use Rattle.grammar.proofs.Encoded.{category-count, rule-count, sections-within, sections-proper}
-use Rattle.tree.specs.Sets.{WorkKept}
-use Rattle.tree.specs.Searchable.{Searchable}
+use Rattle.tree.specs.inner.Sets.{WorkKept}
+use Rattle.tree.specs.inner.Searchable.{Searchable}
 
 -- the grammar that accepted bytes stand for
 module _ (g : List ℕ) (s : Sections) (read : readOf g ≡ Accepted s) where

@@ -8,9 +8,9 @@ use lib.ListN.{length, getD, drop, length-append, drop-of-length-le}
 use borrow.Author.Tests.{lt-ltb, le-ltb}
 use Rattle.derivation.specs.Grammar.{Grammar}
 use Rattle.derivation.specs.Node.{ruleNode}
-use Rattle.derivation.specs.Table.{depthOf}
-use Rattle.derivation.specs.Shown.{chosenRow, shown}
-use Rattle.tree.specs.Counted.{Counting, Counted}
+use Rattle.derivation.specs.computed.Table.{depthOf}
+use Rattle.derivation.specs.computed.Shown.{chosenRow, shown}
+use Rattle.tree.specs.inner.Counted.{Counting, Counted}
 use Rattle.tree.proofs.TurnLaws.{NextChild}
 
 counting-start : (limit rest total : ℕ) → total ≡ suc rest → Counting limit 1 rest total

@@ -19,12 +19,12 @@ use Rattle.positions.proofs.Extremes.{first-empty}
 use Rattle.positions.proofs.Shifts.{one-shifted}
 use Rattle.derivation.specs.Grammar.{Grammar, Rule}
 use Rattle.derivation.specs.Tree.{Children, stop}
-use Rattle.derivation.specs.Within.{ChildWithin, ChildrenWithin}
+use Rattle.derivation.specs.inner.Within.{ChildWithin, ChildrenWithin}
 use Rattle.derivation.proofs.Prefix.{within-then, within-token, within-category}
 use Rattle.checks.specs.Memory.{chartSize, depthsSize}
 use Rattle.filling.proofs.RowLaws.{row-inside}
-use Rattle.tree.specs.Kept.{rowAt, RowsKept}
-use Rattle.tree.specs.Sets.{CategoryKnown, ClassBefore, MayServe}
+use Rattle.tree.specs.inner.Kept.{rowAt, RowsKept}
+use Rattle.tree.specs.inner.Sets.{CategoryKnown, ClassBefore, MayServe}
 
 -- the places of a row and of a depth are in the memory
 pub row-place : (n words A i : ℕ) → i ≤ n → chartSize (suc A) n ≤ words → A * (n + 1) + i < words

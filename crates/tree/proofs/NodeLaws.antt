@@ -10,12 +10,12 @@ use lib.Dec.{eqb, ltb}
 use borrow.Author.Tests.{eqb-true, eq-eqb, lt-ltb, le-ltb}
 use Rattle.derivation.specs.Grammar.{Grammar, Proper, ruleAt}
 use Rattle.derivation.specs.Depth.{DepthIs, noFact, deep}
-use Rattle.derivation.specs.Within.{Within, ChildWithin, ChildrenWithin}
-use Rattle.derivation.specs.Node.{Node, tokenNode, ruleNode}
-use Rattle.derivation.specs.Search.{firstFrom}
-use Rattle.derivation.specs.Round.{child, children, within}
-use Rattle.derivation.specs.Table.{depthOf}
-use Rattle.derivation.specs.Shown.{below, chosenRule, chosenEnd, chosenRow, chosen, shown}
+use Rattle.derivation.specs.inner.Within.{Within, ChildWithin, ChildrenWithin}
+use Rattle.derivation.specs.Node.{NodeValue, tokenNode, ruleNode}
+use Rattle.derivation.specs.computed.Search.{firstFrom}
+use Rattle.derivation.specs.computed.Round.{child, children, within}
+use Rattle.derivation.specs.computed.Table.{depthOf}
+use Rattle.derivation.specs.computed.Shown.{below, chosenRule, chosenEnd, chosenRow, chosen, shown}
 use Rattle.derivation.proofs.Tests.{and-parts, and-both}
 use Rattle.derivation.proofs.Within.{child-iff, children-iff, children-inside}
 use Rattle.derivation.proofs.Prefix.{rule-within, within-then, within-category}
@@ -98,7 +98,7 @@ module _ (G : Grammar) (line : List ℕ) (proper : Proper G) where
       go (deep x) v = (omega arith, omega (arith, x .least (v .tree), v .low))
 
   -- rows agree where what they show of the children does
-  row-same : (f g : ℕ → ℕ → ℕ → List Node) (h : ℕ) → ((A i j : ℕ) → 0 < depthOf G line A i j → depthOf G line A i j ≤ h → f A i j ≡ g A i j) →
+  row-same : (f g : ℕ → ℕ → ℕ → List NodeValue) (h : ℕ) → ((A i j : ℕ) → 0 < depthOf G line A i j → depthOf G line A i j ≤ h → f A i j ≡ g A i j) →
       (s : List ℕ) (i j : ℕ) → ChildrenWithin G line h s i j → chosenRow G line (depthOf G line) f h s i j ≡ chosenRow G line (depthOf G line) g h s i j
   unfolding chosenRow
   row-same f g h same [] i j v = refl
@@ -120,7 +120,7 @@ module _ (G : Grammar) (line : List ℕ) (proper : Proper G) where
       let h = pred (depthOf G line A i j) in
       let p = chosenRule G line (depthOf G line) h A i j in
       let q : depthOf G line A i j - 1 ≡ h = omega arith in
-      ap (λ (nodes : List Node). ruleNode p i j ∷ nodes)
+      ap (λ (nodes : List NodeValue). ruleNode p i j ∷ nodes)
       (row-same (chosen G line (depthOf G line) k) (chosen G line (depthOf G line) l) h (λ A i j z y. enough k l A i j z (omega arith) (omega arith)) (ruleAt G p .right) i j (rw q at (node-rule A i j pos) .2))
 
   -- the nodes of a fact: the use of its rule, then the nodes of its children
@@ -141,5 +141,5 @@ module _ (G : Grammar) (line : List ℕ) (proper : Proper G) where
           let r : suc h - 1 ≡ h = omega arith in
           let k : depthOf G line A i j - 1 ≡ h = omega arith in
           let p = chosenRule G line (depthOf G line) h A i j in
-          rw (q, r) (ap (λ (nodes : List Node). ruleNode p i j ∷ nodes)
+          rw (q, r) (ap (λ (nodes : List NodeValue). ruleNode p i j ∷ nodes)
           (row-same (chosen G line (depthOf G line) h) (shown G line) h (λ A i j z y. enough h (depthOf G line A i j) A i j z y (omega arith)) (ruleAt G p .right) i j (rw k at (node-rule A i j (omega arith)) .2)))

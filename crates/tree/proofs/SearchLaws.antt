@@ -11,17 +11,17 @@ use lib.ListN.{length, getD, drop, set, length-set}
 use lib.Seq.{drop-cons, getD-set-same, getD-set-other}
 use Rattle.positions.specs.Member.{Member}
 use Rattle.derivation.specs.Grammar.{Rule, Grammar, Proper, ruleAt}
-use Rattle.derivation.specs.Within.{ChildrenWithin}
-use Rattle.derivation.specs.Table.{depthOf}
-use Rattle.derivation.specs.Shown.{chosenRule, chosenEnd}
+use Rattle.derivation.specs.inner.Within.{ChildrenWithin}
+use Rattle.derivation.specs.computed.Table.{depthOf}
+use Rattle.derivation.specs.computed.Shown.{chosenRule, chosenEnd}
 use Rattle.derivation.proofs.Within.{child-inside, children-inside}
 use Rattle.derivation.proofs.Prefix.{empty-within, then-within}
 use Rattle.grammar.specs.Value.{standing}
 use Rattle.grammar.proofs.Accepted.{length-is}
-use Rattle.tree.specs.Kept.{Fits}
-use Rattle.tree.specs.Sets.{CategoryKnown, Leads, FirstThat}
-use Rattle.tree.specs.Searchable.{Searchable, NodeAt}
-use Rattle.tree.specs.Searched.{Division, Searched}
+use Rattle.tree.specs.inner.Kept.{Fits}
+use Rattle.tree.specs.inner.Sets.{CategoryKnown, Leads, FirstThat}
+use Rattle.tree.specs.inner.Searchable.{Searchable, NodeAt}
+use Rattle.tree.specs.inner.Searched.{Division, Searched}
 use Rattle.tree.proofs.DivisionLaws.{rows-inside, depths-inside}
 use Rattle.tree.proofs.NodeLaws.{rule-least, end-passes, end-tells, chosen-end, node-rule}
 

@@ -16,11 +16,11 @@ use Rattle.positions.proofs.Members.{none-member, and-member}
 use Rattle.derivation.specs.Grammar.{Grammar}
 use Rattle.derivation.specs.Fact.{Fact}
 use Rattle.derivation.specs.Depth.{DepthIs, noFact, deep}
-use Rattle.derivation.specs.Within.{Within, ChildrenWithin}
+use Rattle.derivation.specs.inner.Within.{Within, ChildrenWithin}
 use Rattle.derivation.proofs.Within.{child-inside}
 use Rattle.derivation.proofs.Prefix.{empty-within, then-within, within-then, token-within, category-within, within-token, within-category}
-use Rattle.tree.specs.Kept.{rowAt, depthAt}
-use Rattle.tree.specs.Sets.{CategoryKnown, WorkKept, FirstThat, Leads, FirstEnd, ClassBefore, Before, Sets}
+use Rattle.tree.specs.inner.Kept.{rowAt, depthAt}
+use Rattle.tree.specs.inner.Sets.{CategoryKnown, WorkKept, FirstThat, Leads, FirstEnd, ClassBefore, StartsBefore, Sets}
 use Rattle.tree.proofs.DivisionLaws.{none-within}
 
 -- the depth kept for a fact is at most h exactly where it has a tree so low
@@ -65,7 +65,7 @@ module _ (line words depths : List ℕ) (h c set m : ℕ) where
 
 -- the starts of a class
 pub class-before : (line words depths : List ℕ) (h c set start end r : ℕ) → c < 128 → end ≤ length line → ((e : ℕ) → Member set e → e ≤ end) →
-    ClassBefore line c set start r → Before line words depths h c set start end r
+    ClassBefore line c set start r → StartsBefore line words depths h c set start end r
 class-before line words depths h c set start end r k b inside found = record {
   inside = λ m x. omega (arith, inside (suc m) (found m .0 x .1));
   exact = λ G work known m. (
@@ -109,7 +109,7 @@ module _ (line words depths : List ℕ) (h c set start end : ℕ) where
       );
     }
 
-  pub before-all : (m r : ℕ) → end < m → ((x : ℕ) → Member set x → x ≤ end) → BeforeBelow line words depths h c set start end m r → Before line words depths h c set start end r
+  pub before-all : (m r : ℕ) → end < m → ((x : ℕ) → Member set x → x ≤ end) → BeforeBelow line words depths h c set start end m r → StartsBefore line words depths h c set start end r
   before-all m r l low b = record {
     inside = b .inside;
     exact = λ G work known x. (
@@ -155,7 +155,7 @@ module _ (line words depths : List ℕ) (h : ℕ) (symbols : List ℕ) (start en
 
   module _ (d : ℕ) (sets : List ℕ) (long : length sets ≡ 9) (x : SetsFrom line words depths h symbols start end d sets) where
     -- the positions before symbol d - 1
-    pub sets-more : (word : ℕ) → 1 < d → Before line words depths h (getD symbols (d - 1) 0) (getD sets d 0) start end word →
+    pub sets-more : (word : ℕ) → 1 < d → StartsBefore line words depths h (getD symbols (d - 1) 0) (getD sets d 0) start end word →
         SetsFrom line words depths h symbols start end (d - 1) (set sets (d - 1) word)
     sets-more word pos b = record {
       low = omega (arith, x .low);

@@ -9,19 +9,19 @@ use borrow.Author.Tests.{lt-ltb, le-ltb}
 use Rattle.refusals.specs.declared.Refusal.the-variants.{TreeOfNoFact, TreeTooSmall}
 use Rattle.refusals.specs.declared.Check.the-variants as check
 use Rattle.derivation.specs.Grammar.{Grammar, Proper}
-use Rattle.derivation.specs.Facts.{facts}
+use Rattle.derivation.specs.computed.Facts.{facts}
 use Rattle.derivation.specs.Depth.{DepthIs, noFact, deep}
-use Rattle.derivation.specs.Shown.{shown}
+use Rattle.derivation.specs.computed.Shown.{shown}
 use Rattle.derivation.proofs.Facts.{facts-exact}
 use Rattle.derivation.proofs.Table.{depthOf-is, depthIs-unique, depthIs-none}
 use Rattle.tree.specs.declared.TreeAnswer.the-variants as tree
 use Rattle.tree.specs.Bytes.{bytes, wrote}
-use Rattle.tree.specs.Kept.{depthAt, Kept}
-use Rattle.tree.specs.Searchable.{NodeAt}
-use Rattle.tree.specs.Counted.{Counted}
+use Rattle.tree.specs.inner.Kept.{depthAt, DepthsKept}
+use Rattle.tree.specs.inner.Searchable.{NodeAt}
+use Rattle.tree.specs.inner.Counted.{Counted}
 use Rattle.tree.specs.Checks.{treeFact}
-use Rattle.tree.specs.Shows.{Shows}
-use Rattle.tree.specs.Shows as shows
+use Rattle.tree.specs.inner.ShowOutcome.{ShowOutcome}
+use Rattle.tree.specs.inner.ShowOutcome as shows
 use Rattle.tree.proofs.ByteLaws.{bytes-four}
 
 module _ (G : Grammar) (line : List ℕ) (A i j : ℕ) (proper : Proper G) where
@@ -36,11 +36,11 @@ module _ (G : Grammar) (line : List ℕ) (A i j : ℕ) (proper : Proper G) where
   fact-passed (noFact n) l = absurd (omega arith)
   fact-passed (deep p) l = rw (facts-exact G line proper A i j .1 (p .tree))
 
-  pub show-none : (out : List ℕ) (d : ℕ) → DepthIs G line A i j d → d ≡ 0 → Shows G line A i j out (tree.Refused TreeOfNoFact) out
+  pub show-none : (out : List ℕ) (d : ℕ) → DepthIs G line A i j d → d ≡ 0 → ShowOutcome G line A i j out (tree.Refused TreeOfNoFact) out
   show-none out d x e = shows.noTree {refusal = TreeOfNoFact} (rw (fact-refused (rw e at x))) refl refl
 
   -- the fact as a node
-  pub node-at : (depths : List ℕ) → Kept G line depths → A < length (G .categories) → i ≤ length line → j ≤ length line → (d : ℕ) → d ≡ depthAt depths (length line) A i j → (d ≡ 0 → ⊥) → NodeAt G line A i j d
+  pub node-at : (depths : List ℕ) → DepthsKept G line depths → A < length (G .categories) → i ≤ length line → j ≤ length line → (d : ℕ) → d ≡ depthAt depths (length line) A i j → (d ≡ 0 → ⊥) → NodeAt G line A i j d
   node-at depths kept a b c d e n = record { category = a; start = b; end = c; depth-is = e ∙ depthIs-unique (kept A i j a b c) (depthOf-is G line proper A i j); fact = omega arith }
 
   module _ (out : List ℕ) (count d : ℕ) (x : NodeAt G line A i j d) (counted : Counted (length (shown G line A i j)) (length out / 4) count) where
@@ -50,7 +50,7 @@ module _ (G : Grammar) (line : List ℕ) (A i j : ℕ) (proper : Proper G) where
     passed : treeFact G line A i j ≡ check.Passed
     passed = fact-passed (depthOf-is G line proper A i j) (omega (arith, x .fact, x .depth-is))
 
-    pub show-small : length out / 4 < count → Shows G line A i j out (tree.Refused TreeTooSmall) out
+    pub show-small : length out / 4 < count → ShowOutcome G line A i j out (tree.Refused TreeTooSmall) out
     show-small l =
         let many = counted .over l in
         let e = lt-ltb (length out) (length (bytes (shown G line A i j))) (omega (arith, four)) in
@@ -62,7 +62,7 @@ module _ (G : Grammar) (line : List ℕ) (A i j : ℕ) (proper : Proper G) where
     pub has-room : count ≤ length out / 4 → 0 + length (bytes (shown G line A i j)) ≤ length out
     has-room l = omega (arith, count-is l, four)
 
-    pub show-all : (out′ : List ℕ) → count ≤ length out / 4 → out′ ≡ wrote out 0 (bytes (shown G line A i j)) → Shows G line A i j out (tree.Nodes count) out′
+    pub show-all : (out′ : List ℕ) → count ≤ length out / 4 → out′ ≡ wrote out 0 (bytes (shown G line A i j)) → ShowOutcome G line A i j out (tree.Nodes count) out′
     show-all out′ l o =
         let e = le-ltb (length out) (length (bytes (shown G line A i j))) (omega (arith, has-room l)) in
         shows.shows (rw (passed, e)) (ap tree.Nodes (count-is l)) o

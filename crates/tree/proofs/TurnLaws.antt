@@ -9,18 +9,18 @@ use lib.ListN.{length, getD, drop}
 use lib.Seq.{drop-cons}
 use lib.Dec.{ltb}
 use Rattle.derivation.specs.Grammar.{Grammar, ruleAt}
-use Rattle.derivation.specs.Within.{ChildWithin, ChildrenWithin}
-use Rattle.derivation.specs.Node.{Node, tokenNode, ruleNode}
-use Rattle.derivation.specs.Table.{depthOf}
-use Rattle.derivation.specs.Shown.{chosenEnd, chosenRow, shown}
+use Rattle.derivation.specs.inner.Within.{ChildWithin, ChildrenWithin}
+use Rattle.derivation.specs.Node.{NodeValue, tokenNode, ruleNode}
+use Rattle.derivation.specs.computed.Table.{depthOf}
+use Rattle.derivation.specs.computed.Shown.{chosenEnd, chosenRow, shown}
 use Rattle.derivation.proofs.Within.{child-inside}
 use Rattle.derivation.proofs.Table.{depthOf-is, depthIs-unique}
 use Rattle.checks.specs.Memory.{depthsSize}
 use Rattle.grammar.specs.Value.{standing}
 use Rattle.tree.specs.declared.search.Found.{Found}
-use Rattle.tree.specs.Kept.{depthAt}
-use Rattle.tree.specs.Searchable.{Searchable, NodeAt}
-use Rattle.tree.specs.Searched.{Searched}
+use Rattle.tree.specs.inner.Kept.{depthAt}
+use Rattle.tree.specs.inner.Searchable.{Searchable, NodeAt}
+use Rattle.tree.specs.inner.Searched.{Searched}
 use Rattle.tree.proofs.NodeLaws.{chosen-end, end-tells, shown-node, child-depth}
 use Rattle.tree.proofs.SearchLaws.{right-is, symbols-known, symbols-few, symbols-fit, chosen-serves}
 
@@ -29,7 +29,7 @@ pub record NextChild (G : Grammar) (line : List ℕ) (h : ℕ) (symbols : List �
   pub start : m ≤ length line
   pub inside : e ≤ length line
   pub child : ChildWithin G line h (getD symbols d 0) m e
-  pub row : (sub : ℕ → ℕ → ℕ → List Node) →
+  pub row : (sub : ℕ → ℕ → ℕ → List NodeValue) →
       chosenRow G line (depthOf G line) sub h (drop d symbols) m end
       ≡ cond (ltb (getD symbols d 0) 128) (tokenNode (getD symbols d 0) m e ∷ []) (sub (getD symbols d 0 - 128) m e) ++ chosenRow G line (depthOf G line) sub h (drop (suc d) symbols) e end
 

@@ -7,15 +7,15 @@ use native.Mathlib.Omega.{arith}
 use lib.ListN.{length, getD, drop, length-append, drop-of-length-le}
 use borrow.Author.Tests.{lt-ltb, le-ltb}
 use Rattle.derivation.specs.Grammar.{Grammar}
-use Rattle.derivation.specs.Node.{Node, tokenNode}
-use Rattle.derivation.specs.Table.{depthOf}
-use Rattle.derivation.specs.Shown.{chosenRow, shown}
+use Rattle.derivation.specs.Node.{NodeValue, tokenNode}
+use Rattle.derivation.specs.computed.Table.{depthOf}
+use Rattle.derivation.specs.computed.Shown.{chosenRow, shown}
 use Rattle.tree.specs.Bytes.{nodeBytes, bytes, wrote}
 use Rattle.tree.proofs.ByteLaws.{length-wrote, wrote-none, wrote-more, bytes-append}
 use Rattle.tree.proofs.TurnLaws.{NextChild}
 
 -- the nodes of the symbols from d on
-abbrev pub rowFrom : Grammar → List ℕ → ℕ → List ℕ → ℕ → ℕ → ℕ → List Node
+abbrev pub rowFrom : Grammar → List ℕ → ℕ → List ℕ → ℕ → ℕ → ℕ → List NodeValue
 rowFrom G line h symbols end d m = chosenRow G line (depthOf G line) (shown G line) h (drop d symbols) m end
 
 -- the first d children are written from `at` on; `all` is what is to be written
@@ -26,7 +26,7 @@ pub record WriteTurn (G : Grammar) (line : List ℕ) (h : ℕ) (symbols : List �
   pub place-is : place ≡ at + length done
   pub out-is : out ≡ wrote row at done
 
-module _ (G : Grammar) (line : List ℕ) (h : ℕ) (symbols : List ℕ) (end : ℕ) (row : List ℕ) (at : ℕ) (nodes : List Node) (fits : at + length (bytes nodes) ≤ length row) where
+module _ (G : Grammar) (line : List ℕ) (h : ℕ) (symbols : List ℕ) (end : ℕ) (row : List ℕ) (at : ℕ) (nodes : List NodeValue) (fits : at + length (bytes nodes) ≤ length row) where
   write-begin : (i : ℕ) → nodes ≡ rowFrom G line h symbols end 0 i → WriteTurn G line h symbols end row at (bytes nodes) 0 i at row
   write-begin i e = record { low = omega arith; done = []; whole = ap bytes (sym e); place-is = omega arith; out-is = sym (wrote-none row at) }
 
@@ -37,7 +37,7 @@ module _ (G : Grammar) (line : List ℕ) (h : ℕ) (symbols : List ℕ) (end : �
       ap length (turn .out-is) ∙ length-wrote row at (turn .done) (omega arith)
 
   module _ (d m x place : ℕ) (out : List ℕ) (l : d < length symbols) (n : NextChild G line h symbols end d m x) (turn : WriteTurn G line h symbols end row at (bytes nodes) d m place out)
-      (child : List Node) (next : rowFrom G line h symbols end d m ≡ child ++ rowFrom G line h symbols end (suc d) x) where
+      (child : List NodeValue) (next : rowFrom G line h symbols end d m ≡ child ++ rowFrom G line h symbols end (suc d) x) where
     parts : turn .done ++ (bytes child ++ bytes (rowFrom G line h symbols end (suc d) x)) ≡ bytes nodes
     parts = ap (λ (b : List ℕ). turn .done ++ b) (sym (ap bytes next ∙ bytes-append child (rowFrom G line h symbols end (suc d) x))) ∙ turn .whole
 
@@ -74,10 +74,10 @@ module _ {G : Grammar} {line : List ℕ} {h : ℕ} {symbols : List ℕ} {end d m
   category-row k = n .row (shown G line) ∙ rw (le-ltb (getD symbols d 0) 128 k)
 
 -- a node, and then its children
-module _ (row : List ℕ) (at : ℕ) (root : Node) (rest nodes : List Node) (e : nodes ≡ root ∷ rest) (fits : at + length (bytes nodes) ≤ length row) where
+module _ (row : List ℕ) (at : ℕ) (root : NodeValue) (rest nodes : List NodeValue) (e : nodes ≡ root ∷ rest) (fits : at + length (bytes nodes) ≤ length row) where
   long-nodes : length (bytes nodes) ≡ 4 + length (bytes rest)
   unfolding bytes
-  long-nodes = ap (λ (l : List Node). length (bytes l)) e ∙ omega arith
+  long-nodes = ap (λ (l : List NodeValue). length (bytes l)) e ∙ omega arith
 
   pub root-room : at + 4 ≤ length row
   root-room = omega (arith, long-nodes)
@@ -88,12 +88,12 @@ module _ (row : List ℕ) (at : ℕ) (root : Node) (rest nodes : List Node) (e :
   all-written : {place : ℕ} {out : List ℕ} → place ≡ at + 4 + length (bytes rest) → out ≡ wrote (wrote row at (nodeBytes root)) (at + 4) (bytes rest) →
       (place ≡ at + length (bytes nodes)) × (out ≡ wrote row at (bytes nodes))
   unfolding bytes
-  all-written q o = (omega (arith, long-nodes), o ∙ wrote-more row at (nodeBytes root) (bytes rest) (omega (arith, long-nodes)) ∙ ap (λ (l : List Node). wrote row at (bytes l)) (sym e))
+  all-written q o = (omega (arith, long-nodes), o ∙ wrote-more row at (nodeBytes root) (bytes rest) (omega (arith, long-nodes)) ∙ ap (λ (l : List NodeValue). wrote row at (bytes l)) (sym e))
 
 -- a node's turn, after its own bytes are written
-module _ (G : Grammar) (line : List ℕ) (h : ℕ) (symbols : List ℕ) (end : ℕ) (row : List ℕ) (at : ℕ) (root : Node) (nodes : List Node) (i : ℕ) (e : nodes ≡ root ∷ rowFrom G line h symbols end 0 i)
+module _ (G : Grammar) (line : List ℕ) (h : ℕ) (symbols : List ℕ) (end : ℕ) (row : List ℕ) (at : ℕ) (root : NodeValue) (nodes : List NodeValue) (i : ℕ) (e : nodes ≡ root ∷ rowFrom G line h symbols end 0 i)
     (fits : at + length (bytes nodes) ≤ length row) (place₀ : ℕ) (out₀ : List ℕ) (q : place₀ ≡ at + 4) (o : out₀ ≡ wrote row at (nodeBytes root)) where
-  abbrev children : List Node
+  abbrev children : List NodeValue
   children = rowFrom G line h symbols end 0 i
 
   -- what the children need is there

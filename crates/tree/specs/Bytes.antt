@@ -23,11 +23,11 @@ abbrev pub tokenOf : ℕ → ℕ → ℕ → Node
 tokenOf class i j = record { kind = Token class; start = i; end = j }
 
 -- of a node of a tree
-abbrev pub nodeBytes : derivation.Node → List ℕ
+abbrev pub nodeBytes : derivation.NodeValue → List ℕ
 nodeBytes x = x .kind ∷ x .number ∷ x .start ∷ x .end ∷ []
 
 -- of nodes, one after the other
-unfoldable pub bytes : List derivation.Node → List ℕ
+unfoldable pub bytes : List derivation.NodeValue → List ℕ
 bytes [] = []
 bytes (x ∷ nodes) = nodeBytes x ++ bytes nodes
 

@@ -8,8 +8,8 @@ use Rattle.refusals.specs.declared.Refusal.the-variants.{TreeOfNoFact, TreeTooS
 use Rattle.refusals.specs.declared.Check.{Check}
 use Rattle.refusals.specs.Order.{Checks}
 use Rattle.derivation.specs.Grammar.{Grammar}
-use Rattle.derivation.specs.Facts.{facts}
-use Rattle.derivation.specs.Shown.{shown}
+use Rattle.derivation.specs.computed.Facts.{facts}
+use Rattle.derivation.specs.computed.Shown.{shown}
 use Rattle.checks.specs.declared.Asked.the-variants.{Span}
 use Rattle.checks.specs.Question.{refuseIf}
 use Rattle.grammar.specs.Given.{grammarGiven}

@@ -1,10 +1,5 @@
 pub mod Bytes
-pub mod Kept
-pub mod Sets
-pub mod Searchable
-pub mod Searched
-pub mod Counted
 pub mod Checks
 pub mod Told
-pub mod Shows
 pub mod Outcome
+pub mod inner

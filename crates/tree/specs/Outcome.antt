@@ -7,7 +7,7 @@ use Rattle.refusals.specs.declared.Refusal.{Refusal}
 use Rattle.refusals.specs.declared.Check.the-variants as check
 use Rattle.refusals.specs.Order.{early, late, reported}
 use Rattle.refusals.specs.Told as told
-use Rattle.derivation.specs.Shown.{shown}
+use Rattle.derivation.specs.computed.Shown.{shown}
 use Rattle.grammar.specs.Given.{grammarGiven}
 use Rattle.filling.specs.Filled.{WorkFilled}
 use Rattle.tree.specs.declared.TreeAnswer.{TreeAnswer}

@@ -1,10 +1,10 @@
 // The number of nodes of a tree, counted no further than past a limit.
 ghost use Prim.Native.Nat.{_^_, _<_};
 ghost use lib.ListN.{length};
-ghost use Rattle.derivation.specs.Shown.{shown};
+ghost use Rattle.derivation.specs.computed.Shown.{shown};
 ghost use Rattle.grammar.specs.Given.{grammarGiven};
-ghost use Rattle.tree.specs.Searchable.{Searchable, NodeAt};
-ghost use Rattle.tree.specs.Counted.{Counted};
+ghost use Rattle.tree.specs.inner.Searchable.{Searchable, NodeAt};
+ghost use Rattle.tree.specs.inner.Counted.{Counted};
 use super::division::depth_at;
 use super::search::search;
 use grammar::rules::rule_symbols;

@@ -5,8 +5,8 @@ ghost use lib.ListN.{length, getD};
 ghost use Rattle.positions.specs.Member.{Member};
 ghost use Rattle.checks.specs.Memory.{depthsSize};
 ghost use Rattle.grammar.specs.Value.{Stands, standing};
-ghost use Rattle.tree.specs.Kept.{depthAt, RowsFit, Fits};
-ghost use Rattle.tree.specs.Sets.{FirstThat, FirstEnd, ClassBefore, Before, Sets, MayServe};
+ghost use Rattle.tree.specs.inner.Kept.{depthAt, RowsFit, Fits};
+ghost use Rattle.tree.specs.inner.Sets.{FirstThat, FirstEnd, ClassBefore, StartsBefore, Sets, MayServe};
 use grammar::rules::rule_left;
 use grammar::rules::rule_symbols;
 
@@ -96,7 +96,7 @@ fn starts_before(
     end: usize,
 ) -> u64
     requires { ⌜ (length (now line) ≤ 63) × (end ≤ length (now line)) × ((e : ℕ) → Member set e → e ≤ end) × Fits (length (now line)) (length (now words)) (length (now depths)) symbol ⌝ }
-    ensures { λ r. ⌜ Before (now (line .entry)) (now (words .entry)) (now (depths .entry)) h symbol set start end r ⌝ }
+    ensures { λ r. ⌜ StartsBefore (now (line .entry)) (now (words .entry)) (now (depths .entry)) h symbol set start end r ⌝ }
 {
     if symbol < 128 {
         return class_starts(symbol, line, set, start);

@@ -6,8 +6,8 @@ ghost use Rattle.checks.specs.Memory.{chartSize, depthsSize};
 ghost use Rattle.grammar.specs.declared.reading.Reading.the-variants.{Accepted};
 ghost use Rattle.grammar.specs.Reading.{readOf};
 ghost use Rattle.grammar.specs.Given.{grammarGiven};
-ghost use Rattle.tree.specs.Kept.{Kept, RowsKept};
-ghost use Rattle.tree.specs.Shows.{Shows};
+ghost use Rattle.tree.specs.inner.Kept.{DepthsKept, RowsKept};
+ghost use Rattle.tree.specs.inner.ShowOutcome.{ShowOutcome};
 ghost use Rattle.tree.specs.Outcome.{TreeOutcome};
 
 mod counting; // counting.rt: how many nodes a tree has, up to a limit
@@ -45,8 +45,8 @@ fn show(
     j: usize,
     out: &mut [u8],
 ) -> TreeAnswer
-    requires { ⌜ (readOf (now g) ≡ Accepted s) × (length (now line) ≤ 63) × (a < s .categories) × (i ≤ length (now line)) × (j ≤ length (now line)) × (depthsSize (s .categories) (length (now line)) ≤ length (now depths)) × Kept (grammarGiven (now g)) (now line) (now depths) × (chartSize (s .categories) (length (now line)) ≤ length (now words)) × RowsKept (grammarGiven (now g)) (now line) (now words) ⌝ }
-    ensures { λ r. ⌜ Shows (grammarGiven (now (g .entry))) (now (line .entry)) a i j (now (out .entry)) r (now (out .exit)) ⌝ }
+    requires { ⌜ (readOf (now g) ≡ Accepted s) × (length (now line) ≤ 63) × (a < s .categories) × (i ≤ length (now line)) × (j ≤ length (now line)) × (depthsSize (s .categories) (length (now line)) ≤ length (now depths)) × DepthsKept (grammarGiven (now g)) (now line) (now depths) × (chartSize (s .categories) (length (now line)) ≤ length (now words)) × RowsKept (grammarGiven (now g)) (now line) (now words) ⌝ }
+    ensures { λ r. ⌜ ShowOutcome (grammarGiven (now (g .entry))) (now (line .entry)) a i j (now (out .entry)) r (now (out .exit)) ⌝ }
 {
     let depth = depth_at(depths, line.len(), a, i, j);
     if depth == 0 {

@@ -1,7 +1,7 @@
 // The search at a node: the lowest-numbered rule of its category for which some division serves, and the first of its divisions.
 ghost use Rattle.grammar.specs.Given.{grammarGiven};
-ghost use Rattle.tree.specs.Searchable.{Searchable, NodeAt};
-ghost use Rattle.tree.specs.Searched.{Searched};
+ghost use Rattle.tree.specs.inner.Searchable.{Searchable, NodeAt};
+ghost use Rattle.tree.specs.inner.Searched.{Searched};
 use super::division::first_end;
 use super::division::may_serve;
 use super::division::sets_before;

@@ -2,10 +2,10 @@
 ghost use mathlib.Core.Path.{_≡_};
 ghost use Prim.Native.Nat.{_+_, _≤_};
 ghost use lib.ListN.{length};
-ghost use Rattle.derivation.specs.Shown.{shown};
+ghost use Rattle.derivation.specs.computed.Shown.{shown};
 ghost use Rattle.grammar.specs.Given.{grammarGiven};
 ghost use Rattle.tree.specs.Bytes.{bytes, wrote};
-ghost use Rattle.tree.specs.Searchable.{Searchable, NodeAt};
+ghost use Rattle.tree.specs.inner.Searchable.{Searchable, NodeAt};
 use super::division::depth_at;
 use super::node::put_node;
 use super::node::rule_node;

@@ -52,9 +52,9 @@ use denote.Triple.Walked.{says, needs, Stays, stay-none, stay-none-slice, stay-s
 use denote.Exit.{yes}
 use Rattle.forest.specs.declared.Branch.{Branch}
 use Rattle.forest.specs.declared.Cursor.{Cursor}
-use Rattle.forest.specs.Charted.{Charted}
-use Rattle.forest.specs.Cursor.{Stood, Follows}
-use Rattle.forest.specs.Writing.{writtenFrom, Writes}
+use Rattle.forest.specs.inner.Charted.{Charted}
+use Rattle.forest.specs.inner.Cursor.{Stood, Follows}
+use Rattle.forest.specs.inner.Writing.{writtenFrom, Writes}
 use Rattle.forest.proofs.WriteLaws.{laid, laid-is, length-laid, Reached, enough, reached-first, reached-record, reached-next}
 use Rattle.forest.proofs.Cursor as K
 use Rattle.forest.proofs.Cursor.Laws as K′

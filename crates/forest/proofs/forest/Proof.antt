@@ -44,8 +44,8 @@ use denote.Exit.{yes}
 use Rattle.forest.specs.declared.Branch.{Branch}
 use Rattle.forest.specs.declared.Plan.{Plan}
 use Rattle.forest.specs.declared.Cursor.{Cursor}
-use Rattle.forest.specs.Planned.{Planned}
-use Rattle.forest.specs.Writing.{writtenFrom, Writes}
+use Rattle.forest.specs.inner.Planned.{Planned}
+use Rattle.forest.specs.inner.Writing.{writtenFrom, Writes}
 use Rattle.forest.proofs.OutcomeLaws.{plan-fits, plan-writes, plan-outcome}
 use Rattle.forest.proofs.Again.{LentAgain, lends-again, comes-back}
 use Rattle.forest.proofs.Shared.{LentShared, lends-shared, shared-back}

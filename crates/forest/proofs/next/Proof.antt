@@ -7,8 +7,8 @@ use borrow.Author.Needs.{needs}
 use Rattle.grammar.specs.Value.{standing}
 use Rattle.derivation.proofs.Within.{children-inside}
 use Rattle.forest.specs.declared.Cursor.{Cursor}
-use Rattle.forest.specs.Charted.{Charted}
-use Rattle.forest.specs.Cursor.{Stood}
+use Rattle.forest.specs.inner.Charted.{Charted}
+use Rattle.forest.specs.inner.Cursor.{Stood}
 use Rattle.forest.proofs.EndsLaws.{rules-few, rule-within}
 use Rattle.forest.proofs.NextLaws.{symbol-inside, next-end, next-middle, next-later, next-none}
 use Rattle.forest.proofs.next.Statement.{statement}

@@ -4,7 +4,7 @@ use native.Mathlib.Omega.{arith}
 use denote.Ref.{now}
 use Rattle.grammar.specs.Given.{grammarGiven}
 use Rattle.grammar.proofs.Accepted.{accepted}
-use Rattle.tree.specs.Searchable.{Searchable, NodeAt}
+use Rattle.tree.specs.inner.Searchable.{Searchable, NodeAt}
 use Rattle.tree.proofs.CheckLaws.{searchable, given-proper, given-categories}
 use Rattle.tree.proofs.DivisionLaws.{depths-inside}
 use Rattle.tree.proofs.ShowLaws.{show-none, node-at, show-small, has-room, show-all}

@@ -7,7 +7,7 @@ use lib.ListN.{getD}
 use borrow.Author.Needs.{needs}
 use Rattle.positions.specs.Count.{countBelow}
 use Rattle.positions.proofs.Counts.{count-le}
-use Rattle.derivation.specs.FactCount.{total}
+use Rattle.derivation.specs.computed.FactCount.{total}
 use Rattle.derivation.proofs.Totals.{total-none, total-next, total-le}
 use Rattle.chart.proofs.work.count_ends.Statement.{statement}
 use Rattle.chart.proofs.work.count_ends.Tie as tie

@@ -7,7 +7,7 @@ use denote.Ref.{now}
 use native.Mathlib.Nat.{mul-le-mul-right, suc-mul}
 use native.Mathlib.Omega.{arith}
 use borrow.Author.Needs.{needs}
-use Rattle.filling.specs.Gained.{AllCommitted}
+use Rattle.filling.specs.inner.Gained.{AllCommitted}
 use Rattle.filling.proofs.CommitLaws.{all-none, all-more, ready-kept, ready-fewer}
 use Rattle.filling.proofs.commit.commit.Statement.{statement}
 use Rattle.filling.proofs.commit.commit.Tie as tie

@@ -11,8 +11,8 @@ use lib.Arith.{digits-lt}
 use lib.ListN.{getD, set}
 use borrow.Author.Needs.{needs}
 use Rattle.positions.proofs.Members.{xor-member}
-use Rattle.filling.specs.Commit.{Ready}
-use Rattle.filling.specs.Gained.{RowsCommitted}
+use Rattle.filling.specs.inner.Commit.{Ready}
+use Rattle.filling.specs.inner.Gained.{RowsCommitted}
 use Rattle.filling.proofs.CommitLaws.{rows-same, ready-kept, rows-join, row-new}
 use Rattle.filling.proofs.commit.commit_rows.Statement.{statement}
 use Rattle.filling.proofs.commit.commit_rows.Tie as tie

@@ -11,7 +11,7 @@ use Rattle.positions.specs.Member.{Member}
 use Rattle.positions.proofs.Members.{one-le, less-member}
 use Rattle.positions.proofs.Extremes.{first-empty}
 use Rattle.positions.proofs.Shifts.{one-shifted}
-use Rattle.filling.specs.Commit.{Deepened}
+use Rattle.filling.specs.inner.Commit.{Deepened}
 use Rattle.filling.proofs.DepthLaws.{deepened-none, deepened-less}
 use Rattle.filling.proofs.commit.write_depths.Statement.{statement}
 use Rattle.filling.proofs.commit.write_depths.Tie as tie

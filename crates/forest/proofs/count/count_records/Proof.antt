@@ -7,15 +7,15 @@ use lib.ListN.{length}
 use denote.Ref.{now}
 use borrow.Author.Needs.{needs}
 use Rattle.derivation.specs.Grammar.{Rule, ruleAt}
-use Rattle.derivation.specs.FactCount.{total}
+use Rattle.derivation.specs.computed.FactCount.{total}
 use Rattle.derivation.proofs.Totals.{total-none, total-next}
 use Rattle.grammar.specs.declared.reading.Sections.{Sections}
 use Rattle.grammar.specs.Value.{startOf, after}
 use Rattle.grammar.specs.Given.{sectionsGiven, grammarGiven}
 use Rattle.grammar.proofs.Accepted.{start-none, start-more}
 use Rattle.grammar.proofs.Encoded.{sections-within}
-use Rattle.forest.specs.Charted.{RuleStands}
-use Rattle.forest.specs.Count.{ruleCount}
+use Rattle.forest.specs.inner.Charted.{RuleStands}
+use Rattle.forest.specs.inner.Count.{ruleCount}
 use Rattle.forest.proofs.EndsLaws.{sectioned, rules-few, rules-all, rule-found}
 use Rattle.forest.proofs.CountLaws.{all-le, forest-counted}
 use Rattle.forest.proofs.count.count_records.Statement.{statement}

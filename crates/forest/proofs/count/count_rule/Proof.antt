@@ -5,11 +5,11 @@ use native.Mathlib.Omega.{arith}
 use lib.ListN.{length}
 use denote.Ref.{now}
 use borrow.Author.Needs.{needs}
-use Rattle.derivation.specs.FactCount.{total}
+use Rattle.derivation.specs.computed.FactCount.{total}
 use Rattle.derivation.proofs.Totals.{total-none, total-next}
 use Rattle.grammar.specs.Value.{standing}
 use Rattle.grammar.specs.Given.{grammarGiven}
-use Rattle.forest.specs.Count.{placeCount}
+use Rattle.forest.specs.inner.Count.{placeCount}
 use Rattle.forest.proofs.CountLaws.{rule-le}
 use Rattle.forest.proofs.count.count_rule.Statement.{statement}
 use Rattle.forest.proofs.count.count_rule.Tie as tie

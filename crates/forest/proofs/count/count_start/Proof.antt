@@ -8,11 +8,11 @@ use denote.Ref.{now}
 use borrow.Author.Needs.{needs}
 use Rattle.positions.proofs.Members.{member-true, member-false}
 use Rattle.positions.proofs.Counts.{count-le}
-use Rattle.derivation.specs.FactCount.{total}
+use Rattle.derivation.specs.computed.FactCount.{total}
 use Rattle.derivation.proofs.Totals.{total-none, total-next}
 use Rattle.grammar.specs.Value.{standing}
 use Rattle.grammar.specs.Given.{grammarGiven}
-use Rattle.forest.specs.Count.{middleCount}
+use Rattle.forest.specs.inner.Count.{middleCount}
 use Rattle.forest.proofs.EndsLaws.{proper}
 use Rattle.forest.proofs.CountLaws.{start-le, middle-none, middle-some}
 use Rattle.forest.proofs.count.count_start.Statement.{statement}

@@ -3,7 +3,7 @@ use Prim.Native.Nat.{_-_, _≤_}
 use mathlib.Core.Path.{_≡_}
 use native.Mathlib.Omega.{arith}
 use borrow.Author.Needs.{needs}
-use Rattle.forest.specs.Ends.{PrefixEnds}
+use Rattle.forest.specs.inner.Ends.{PrefixEnds}
 use Rattle.forest.proofs.EndsLaws.{prefix-none, prefix-more, prefix-inside}
 use Rattle.forest.proofs.ends.prefix_ends.Statement.{statement}
 use Rattle.forest.proofs.ends.prefix_ends.Tie as tie

@@ -7,7 +7,7 @@ use denote.Ref.{now}
 use borrow.Author.Needs.{needs}
 use Rattle.positions.specs.Member.{Member}
 use Rattle.positions.proofs.Members.{none-member, member-true, member-false}
-use Rattle.forest.specs.Ends.{SymbolDerives}
+use Rattle.forest.specs.inner.Ends.{SymbolDerives}
 use Rattle.forest.proofs.seek.seek_middle.Statement.{statement}
 use Rattle.forest.proofs.seek.seek_middle.Tie as tie
 

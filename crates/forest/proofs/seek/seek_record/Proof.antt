@@ -6,7 +6,7 @@ use lib.ListN.{length}
 use denote.Ref.{now}
 use borrow.Author.Needs.{needs}
 use Rattle.grammar.specs.Value.{standing}
-use Rattle.forest.specs.Charted.{RuleStands}
+use Rattle.forest.specs.inner.Charted.{RuleStands}
 use Rattle.forest.proofs.EndsLaws.{rules-few}
 use Rattle.forest.proofs.SearchLaws.{Search, search-here, search-none, search-rule, search-place, search-start, search-found}
 use Rattle.forest.proofs.seek.seek_record.Statement.{statement}

@@ -42,7 +42,7 @@ use denote.Triple.Walked.{says, needs, Stays, stay-none, walkOf, goes-none, Walk
 use denote.Exit.{yes}
 use denote.Triple.Clauses.{ensured, lasts}
 use Rattle.grammar.specs.Value.{Sectioned}
-use Rattle.grammar.specs.Starts.{Starts}
+use Rattle.grammar.specs.inner.Starts.{Starts}
 use Rattle.grammar.specs.View.{sectionsBeside}
 use Rattle.grammar.specs.declared.reading.Sections.{Sections}
 use Rattle.grammar.specs.declared.view.View.{View}

@@ -7,7 +7,7 @@ use native.Mathlib.Nat.{add-assoc, add-zero}
 use native.Mathlib.Omega.{arith}
 use lib.ListN.{take}
 use Rattle.lines.specs.Decimal.{digitCode}
-use Rattle.lines.specs.Stored.{Stored}
+use Rattle.lines.specs.inner.Stored.{Stored}
 use Rattle.lines.proofs.WriteLaws.{stored-none, stored-more, stored-long, digits-more, digits-long}
 use Rattle.lines.proofs.listing.write_digits.Statement.{statement}
 use Rattle.lines.proofs.listing.write_digits.Tie as tie

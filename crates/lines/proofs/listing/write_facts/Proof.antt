@@ -5,9 +5,9 @@ use Prim.Native.Nat.{ℕ, _-_, _/_, _≤_, _<_}
 use mathlib.Core.Path.{_≡_, sym}
 use native.Mathlib.Nat.{div-le-self, mod-le}
 use lib.ListN.{length}
-use Rattle.derivation.specs.Listing.{gathered}
-use Rattle.lines.specs.Stored.{Stored}
-use Rattle.lines.specs.Listing.{factLineAt}
+use Rattle.derivation.specs.computed.Listing.{gathered}
+use Rattle.lines.specs.inner.Stored.{Stored}
+use Rattle.lines.specs.inner.Listing.{factLineAt}
 use Rattle.lines.proofs.WriteLaws.{gather-none, gather-long, gather-few, gather-room, gather-more}
 use Rattle.lines.proofs.LineLaws.{fact-few}
 use Rattle.lines.proofs.listing.write_facts.Statement.{statement}

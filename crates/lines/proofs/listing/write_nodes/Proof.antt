@@ -4,10 +4,10 @@ use native.Mathlib.Omega.{arith}
 use Prim.Native.Nat.{ℕ, _+_, _-_, _*_, _≤_, _<_}
 use mathlib.Core.Path.{_≡_, sym}
 use lib.ListN.{length}
-use Rattle.derivation.specs.Listing.{gathered}
-use Rattle.lines.specs.Stored.{Stored}
+use Rattle.derivation.specs.computed.Listing.{gathered}
+use Rattle.lines.specs.inner.Stored.{Stored}
 use Rattle.lines.specs.Lines.{text, lineOf, numbered}
-use Rattle.lines.specs.Listing.{nodeLineAt}
+use Rattle.lines.specs.inner.Listing.{nodeLineAt}
 use Rattle.lines.proofs.WriteLaws.{gather-none, gather-long, gather-few, gather-room, gather-more}
 use Rattle.lines.proofs.LineLaws.{node-few}
 use Rattle.lines.proofs.listing.write_nodes.Statement.{statement}

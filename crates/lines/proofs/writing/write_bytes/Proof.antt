@@ -5,7 +5,7 @@ use native.Mathlib.Nat.{add-assoc, add-zero}
 use native.Mathlib.Omega.{arith}
 use lib.ListN.{length, take}
 use lib.Seq.{take-all, length-take-le}
-use Rattle.lines.specs.Stored.{Stored}
+use Rattle.lines.specs.inner.Stored.{Stored}
 use Rattle.lines.proofs.WriteLaws.{stored-none, stored-more, stored-long, take-more}
 use Rattle.lines.proofs.writing.write_bytes.Statement.{statement}
 use Rattle.lines.proofs.writing.write_bytes.Tie as tie

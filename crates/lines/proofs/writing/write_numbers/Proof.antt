@@ -6,7 +6,7 @@ use mathlib.Core.List.{List}
 use native.Mathlib.Omega.{arith}
 use lib.ListN.{length}
 use lib.Seq.{take-all}
-use Rattle.lines.specs.Stored.{Stored}
+use Rattle.lines.specs.inner.Stored.{Stored}
 use Rattle.lines.specs.Lines.{spaced}
 use Rattle.lines.proofs.WriteLaws.{stored-none, stored-then, stored-long, numbersTo, numbers-more, numbers-few, numbers-room}
 use Rattle.lines.proofs.writing.write_numbers.Statement.{statement}

@@ -5,8 +5,8 @@ use Prim.Native.Nat.{ℕ, _≤_}
 use mathlib.Core.Path.{_≡_, sym, _∙_}
 use lib.ListN.{length, length-replicate}
 use Rattle.refusals.specs.declared.Refusal.{Refusal}
-use Rattle.derivation.specs.RoundsOf.{roundsOf}
-use Rattle.derivation.specs.FactCount.{factCount}
+use Rattle.derivation.specs.computed.RoundsOf.{roundsOf}
+use Rattle.derivation.specs.computed.FactCount.{factCount}
 use Rattle.grammar.specs.Given.{grammarGiven}
 use Rattle.chart.specs.declared.ChartAnswer.the-variants as chart
 use Rattle.lines.specs.Lines.{roundsAndFacts}

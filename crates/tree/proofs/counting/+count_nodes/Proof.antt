@@ -9,7 +9,7 @@ use denote.Ref.{now}
 use borrow.Author.Needs.{needs}
 use borrow.Fn.Kinds.{In}
 use borrow.Fn.PlainCycle.{Measures, is, falls, and}
-use Rattle.derivation.specs.Shown.{shown}
+use Rattle.derivation.specs.computed.Shown.{shown}
 use Rattle.grammar.specs.Given.{grammarGiven}
 use Rattle.tree.proofs.TurnLaws.{NextChild, found-inside, turn-few, turn-fit, turn-shown, turn-child, child-node}
 use Rattle.tree.proofs.CountLaws.{CountTurn, count-begin, count-token, count-category, count-end, counting-over}

@@ -5,7 +5,7 @@ use lib.ListN.{length}
 use denote.Ref.{now}
 use borrow.Author.Needs.{needs}
 use Rattle.positions.proofs.Members.{and-member, member-true, member-false}
-use Rattle.tree.specs.Kept.{rowAt}
+use Rattle.tree.specs.inner.Kept.{rowAt}
 use Rattle.tree.proofs.DivisionLaws.{row-place, depth-place}
 use Rattle.tree.proofs.SetLaws.{end-category, end-past, end-other, end-out, end-next}
 use Rattle.tree.proofs.division.first_end.Statement.{statement}

@@ -6,8 +6,8 @@ use native.Mathlib.Numerals.{add-one}
 use native.Mathlib.Omega.{arith}
 use lib.ListN.{length}
 use denote.Ref.{now}
-use Rattle.derivation.specs.Table.{depthOf}
-use Rattle.derivation.specs.Shown.{chosenRule}
+use Rattle.derivation.specs.computed.Table.{depthOf}
+use Rattle.derivation.specs.computed.Shown.{chosenRule}
 use Rattle.grammar.specs.Given.{grammarGiven}
 use Rattle.tree.proofs.SearchLaws.{SearchTurn, symbols-few, symbols-known, symbols-fit, node-rises, rule-inside, rule-after, rule-found, turn-begin, turn-inside, turn-fails, turn-whole, turn-next}
 use borrow.Author.Tests.{not-true, not-false}

@@ -11,7 +11,7 @@ use borrow.Author.Needs.{needs}
 use borrow.Fn.Kinds.{In}
 use borrow.Fn.PlainCycle.{Measures, is, falls, and}
 use Rattle.derivation.specs.Node.{ruleNode}
-use Rattle.derivation.specs.Shown.{shown}
+use Rattle.derivation.specs.computed.Shown.{shown}
 use Rattle.grammar.specs.Given.{grammarGiven}
 use Rattle.tree.specs.Bytes.{bytes}
 use Rattle.tree.proofs.TurnLaws.{NextChild, found-inside, turn-few, turn-fit, turn-shown, turn-child, child-node}

@@ -1,0 +1,2 @@
+-- What only the proofs and the contracts of inner functions need: no promise rests on it.
+pub mod Within
