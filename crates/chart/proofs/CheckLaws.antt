@@ -10,7 +10,7 @@ use Rattle.refusals.specs.declared.Refusal.{Refusal}
 use Rattle.refusals.specs.declared.Check.{Check}
 use Rattle.refusals.specs.declared.Check.the-variants as check
 use Rattle.refusals.specs.Order.{early}
-use Rattle.derivation.specs.Grammar.{Grammar}
+use Rattle.derivation.specs.Grammar.{Grammar, Proper}
 use Rattle.derivation.specs.computed.RoundsOf.{roundsOf}
 use Rattle.derivation.proofs.RoundsOf.{rounds-fit}
 use Rattle.checks.specs.declared.Asked.{Asked}
@@ -24,9 +24,9 @@ use Rattle.grammar.specs.declared.reading.Reading.{Reading}
 use Rattle.grammar.specs.declared.reading.Reading.the-variants.{Accepted, Refused}
 use Rattle.grammar.specs.Reading.{readOf}
 use Rattle.grammar.specs.Value.{Sectioned, grammarOf}
-use Rattle.grammar.specs.Given.{grammarGiven}
+use Rattle.grammar.specs.Given.{checkOf, sectionsIn, grammarGiven}
 use Rattle.grammar.proofs.Accepted.{accepted, whole}
-use Rattle.grammar.proofs.Encoded.{sections-proper, category-count}
+use Rattle.grammar.proofs.Encoded.{sections-proper, accepted-proper, category-count}
 use Rattle.chart.specs.inner.Checked.{acceptedIf, checkedOf}
 use Rattle.chart.specs.Checks.{checksOn, checksOf, depthCheck}
 
@@ -94,3 +94,11 @@ early-passed {g} {line} {asked} words depths {s} fact room passes =
     rw (passes .read)
     (passed-before (lineCheck (s .classes) line) (askedCheck (s .categories) (length line) asked) (workCheck (s .categories) (length line) (length words) (length depths)) (depthCheck (grammarOf g s) line) (passes .rest)
     ∙ depth-passes passes)
+
+-- a question whose first checks pass has a grammar with every rule's left category in it
+pub early-proper : (g line : List ℕ) (asked : Asked) (words depths : List ℕ) (fact room : Check) → early (checksOf g line asked words depths fact room) ≡ check.Passed → Proper (grammarGiven g)
+early-proper g line asked words depths fact room e = go (readOf g) refl (both-passed (checkOf (readOf g)) _ e .0)
+  where
+    go : (r : Reading) → readOf g ≡ r → checkOf r ≡ check.Passed → Proper (grammarOf g (sectionsIn r))
+    go (Accepted s) q h = accepted-proper g s q
+    go (Refused x) q h = absurd (let z : _≡_ {A = ℕ} 0 1 = cc in omega arith)

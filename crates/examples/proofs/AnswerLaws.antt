@@ -28,6 +28,7 @@ use Rattle.derivation.proofs.Totals.{total-same}
 use Rattle.derivation.proofs.Table.{at-listed}
 use Rattle.derivation.proofs.RoundsOf.{roundsOf-is}
 use Rattle.derivation.proofs.Facts.{length-factList, factList-is}
+use Rattle.derivation.proofs.Forest.{forest-is}
 use Rattle.checks.specs.declared.Asked.{Asked}
 use Rattle.checks.specs.declared.Asked.the-variants.{Nothing, Start, Span}
 use Rattle.checks.specs.Line.{lineCheck}
@@ -54,7 +55,6 @@ use Rattle.tree.specs.Bytes.{nodeBytes, bytes}
 use Rattle.tree.specs.Checks.{treeFact, treeRoom}
 use Rattle.tree.specs.Outcome as tree-outcome
 use Rattle.forest.specs.declared.ForestAnswer.the-variants as forest-answer
-use Rattle.forest.specs.Checks.{recordCount, roomCheck}
 use Rattle.forest.specs.Record.{recordOf}
 use Rattle.forest.specs.Outcome as forest-outcome
 use Rattle.examples.specs.Entry.{Graded, Question, chart, ends, marks, tree, forest, holding}
@@ -177,12 +177,13 @@ module _ (g line : List ℕ) (read : readOf g ≡ Accepted (sectionsGiven g)) (i
       let p = and-parts (sameBy derivation.branchNumbers branches (records.forest G line)) (sameTold told (answered (length branches ∷ []))) t in
       let is = same-by derivation.branchNumbers branch-one branches (records.forest G line) (p .0) in
       λ words depths rows lent room.
-      let early = passed words depths lent Nothing check.Passed (roomCheck G line (length rows)) refl in
-      let fits : recordCount G line ≤ length rows = rw is at room in (
+      let fits : length (records.forest G line) ≤ length rows = rw is at room in (
         forest-answer.Records (length branches),
         sym (told-is told _ (p .1)),
         forest-outcome.answered
-            (rw (early, le-ltb (length rows) (recordCount G line) fits))
+            (passed words depths lent Nothing check.Passed check.Passed refl)
+            (forest-is proper)
+            fits
             (ap (λ (l : List derivation.BranchValue). answered (length l ∷ [])) is)
             (work words depths lent)
             (ap (λ (l : List derivation.BranchValue). overwritten (map recordOf l) rows) is ∙ rw (length-map (records.forest G line) recordOf)),

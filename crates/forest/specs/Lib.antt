@@ -1,5 +1,4 @@
 pub mod Record
-pub mod Checks
 pub mod Told
 pub mod Outcome
 pub mod inner

@@ -10,7 +10,6 @@ use Rattle.checks.specs.declared.Asked.the-variants.{Nothing}
 use Rattle.grammar.specs.Reading.{readOf}
 use Rattle.grammar.specs.Given.{grammarGiven}
 use Rattle.chart.proofs.CheckLaws.{Passes, checked-refused, checked-accepted, sections, line-is, memory-is}
-use Rattle.forest.specs.Checks.{roomCheck}
 use Rattle.forest.proofs.PlanLaws.{plan-turned, sections-are, charted, first-stands, plan-refused, plan-found, plan-empty}
 use Rattle.forest.proofs.prepare.Statement.{statement}
 use Rattle.forest.proofs.prepare.Tie as tie
@@ -38,8 +37,7 @@ enum-known-refusal c = search needs
 returns : tie.Need-returns
 returns c =
     let a = c .before .before .before .before .before .before .before .before .args in
-    let small = roomCheck (grammarGiven (now (a .g))) (now (a .line)) (a .room) in
-    plan-turned _ _ _ _ _ _ _ (checked-refused (readOf (now (a .g))) (grammarGiven (now (a .g))) (now (a .line)) Nothing (now (a .words)) (now (a .depths)) Passed small _ (sym (c .before .before .before .checked .ensures) ∙ c .before .refusal .given .1))
+    plan-turned _ _ _ _ _ _ _ (checked-refused (readOf (now (a .g))) (grammarGiven (now (a .g))) (now (a .line)) Nothing (now (a .words)) (now (a .depths)) Passed Passed _ (sym (c .before .before .before .checked .ensures) ∙ c .before .refusal .given .1))
 
 enum-known-s : tie.Need-enum-known-s
 enum-known-s c = search needs
