@@ -1,12 +1,13 @@
 -- An accepted grammar: the question is answered, or turned down after the filling, and the work memory is filled.
 use Prim.Native.Nat.{ℕ, _+_, _*_, _≤_, _<_}
 use mathlib.Core.Path.{_≡_, refl, sym, ap, _∙_}
-use mathlib.Core.Bool.{true, cond}
+use mathlib.Core.Bool.{Bool, true, false, true≢false, cond}
 use mathlib.Core.List.{List, [], _∷_, map}
 use native.Mathlib.Omega.{arith}
 use lib.ListN.{length, getD, length-map}
 use lib.Count.{trailingZeros}
 use borrow.Author.Tests.{le-ltb}
+use Rattle.refusals.specs.declared.Refusal.the-variants.{TreeOfNoFact}
 use Rattle.refusals.specs.declared.Check.{Check}
 use Rattle.refusals.specs.declared.Check.the-variants as check
 use Rattle.refusals.specs.Row.{rowOf}
@@ -15,10 +16,11 @@ use Rattle.refusals.specs.Told.{Told, answered, refused}
 use Rattle.positions.specs.Count.{countBelow}
 use Rattle.positions.proofs.Extremes.{first-trailing}
 use Rattle.derivation.specs.Grammar.{Grammar, Proper}
-use Rattle.derivation.specs.Node.{NodeValue}
+use Rattle.derivation.specs.Node.{NodeValue, preorder}
 use Rattle.derivation.specs.Branch as derivation
 use Rattle.derivation.specs.computed.RoundsOf.{roundsOf}
 use Rattle.derivation.specs.computed.FactCount.{total, factCount}
+use Rattle.derivation.specs.computed.Facts as is-fact
 use Rattle.derivation.specs.computed.Facts.{factList}
 use Rattle.derivation.specs.computed.Marks as of-line
 use Rattle.derivation.specs.computed.Shown.{shown}
@@ -27,7 +29,9 @@ use Rattle.derivation.proofs.Tests.{and-parts}
 use Rattle.derivation.proofs.Totals.{total-same}
 use Rattle.derivation.proofs.Table.{at-listed}
 use Rattle.derivation.proofs.RoundsOf.{roundsOf-is}
-use Rattle.derivation.proofs.Facts.{length-factList, factList-is}
+use Rattle.derivation.proofs.Facts.{facts-exact, length-factList, factList-is}
+use Rattle.derivation.proofs.Decide.{depth-exists}
+use Rattle.derivation.proofs.Shown.{chosen-exists}
 use Rattle.derivation.proofs.Forest.{forest-is}
 use Rattle.checks.specs.declared.Asked.{Asked}
 use Rattle.checks.specs.declared.Asked.the-variants.{Nothing, Start, Span}
@@ -52,7 +56,6 @@ use Rattle.marks.proofs.Unique.{length-listed, mark-computed}
 use Rattle.marks.proofs.OutcomeLaws.{marks-answered}
 use Rattle.tree.specs.declared.TreeAnswer.the-variants as tree-answer
 use Rattle.tree.specs.Bytes.{nodeBytes, bytes}
-use Rattle.tree.specs.Checks.{treeFact, treeRoom}
 use Rattle.tree.specs.Outcome as tree-outcome
 use Rattle.forest.specs.declared.ForestAnswer.the-variants as forest-answer
 use Rattle.forest.specs.Record.{recordOf}
@@ -145,30 +148,37 @@ module _ (g line : List ℕ) (read : readOf g ≡ Accepted (sectionsGiven g)) (i
             (marks-are G line new row proper is (omega arith)),
       )
 
-  tree-holds : (A i j : ℕ) (nodes : List NodeValue) (told : Told) → spanCheck (sectionsGiven g .categories) (length line) A i j ≡ check.Passed → (c : Check) → treeFact G line A i j ≡ c → treeTest g line A i j nodes told c ≡ true →
+  tree-holds : (A i j : ℕ) (nodes : List NodeValue) (told : Told) → spanCheck (sectionsGiven g .categories) (length line) A i j ≡ check.Passed → (c : Bool) → is-fact.facts G line A i j ≡ c → treeTest g line A i j nodes told c ≡ true →
       OutcomeIs g line (tree A i j nodes) told (holding facts)
   unfolding treeTest bytes
-  tree-holds A i j nodes told question check.Passed fact t =
+  tree-holds A i j nodes told question true fact t =
       let p = and-parts (sameBy nodeBytes nodes (shown G line A i j)) (sameTold told (answered (length nodes ∷ []))) t in
-      let is = same-by nodeBytes node-one nodes (shown G line A i j) (p .0) in
-      λ words depths row lent room.
-      let early = passed words depths lent (Span A i j) (treeFact G line A i j) (treeRoom G line A i j row) question in
-      let fits : length (bytes (shown G line A i j)) ≤ length row = rw is at room in (
+      let chosen = chosen-exists G line proper (depth-exists G line (facts-exact G line proper A i j .0 fact) .1) in
+      let is : nodes ≡ preorder (chosen .0) = same-by nodeBytes node-one nodes (shown G line A i j) (p .0) ∙ chosen .3 in
+      λ words depths row lent room. (
         tree-answer.Nodes (length nodes),
         sym (told-is told _ (p .1)),
         tree-outcome.shows
-            (rw (early, fact, le-ltb (length row) (length (bytes (shown G line A i j))) fits))
+            (chosen .0)
+            (passed words depths lent (Span A i j) check.Passed check.Passed question)
+            (chosen .1)
+            (rw is at room)
             (ap (λ (l : List NodeValue). answered (length l ∷ [])) is)
             (work words depths lent)
             (ap (λ (l : List NodeValue). overwritten (bytes l) row) is),
       )
-  tree-holds A i j nodes told question (check.Refused refusal) fact t =
-      let p = and-parts (sameBy nodeBytes nodes []) (sameTold told (refused (rowOf refusal))) t in
+  tree-holds A i j nodes told question false fact t =
+      let p = and-parts (sameBy nodeBytes nodes []) (sameTold told (refused (rowOf TreeOfNoFact))) t in
       let none = same-by nodeBytes node-one nodes [] (p .0) in
       λ words depths row lent room. (
-        tree-answer.Refused refusal,
+        tree-answer.Refused TreeOfNoFact,
         sym (told-is told _ (p .1)),
-        tree-outcome.noTree {refusal = refusal} (passed words depths lent (Span A i j) (treeFact G line A i j) (treeRoom G line A i j row) question) (rw fact) refl (work words depths lent) (rw none),
+        tree-outcome.noFact
+            (passed words depths lent (Span A i j) check.Passed check.Passed question)
+            (λ f. true≢false (sym (facts-exact G line proper A i j .1 f) ∙ fact))
+            refl
+            (work words depths lent)
+            (rw none),
       )
 
   forest-holds : (branches : List derivation.BranchValue) (told : Told) → answerTest g line facts (forest branches) told ≡ true → OutcomeIs g line (forest branches) told (holding facts)
@@ -195,6 +205,6 @@ module _ (g line : List ℕ) (read : readOf g ≡ Accepted (sectionsGiven g)) (i
   answer-holds (ends A i) told t = ends-holds A i told t
   answer-holds (marks new) told t = marks-holds new told t
   answer-holds (tree A i j nodes) told t =
-      let p = and-parts (passes (spanCheck (sectionsGiven g .categories) (length line) A i j)) (treeTest g line A i j nodes told (treeFact G line A i j)) t in
-      tree-holds A i j nodes told (passes-is (spanCheck (sectionsGiven g .categories) (length line) A i j) (p .0)) (treeFact G line A i j) refl (p .1)
+      let p = and-parts (passes (spanCheck (sectionsGiven g .categories) (length line) A i j)) (treeTest g line A i j nodes told (is-fact.facts G line A i j)) t in
+      tree-holds A i j nodes told (passes-is (spanCheck (sectionsGiven g .categories) (length line) A i j) (p .0)) (is-fact.facts G line A i j) refl (p .1)
   answer-holds (forest branches) told t = forest-holds branches told t

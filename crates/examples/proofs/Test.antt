@@ -6,6 +6,7 @@ use lib.ListN.{length, getD}
 use lib.Dec.{eqb, ltb}
 use lib.Count.{trailingZeros}
 use Rattle.refusals.specs.declared.Refusal.{Refusal}
+use Rattle.refusals.specs.declared.Refusal.the-variants.{TreeOfNoFact}
 use Rattle.refusals.specs.declared.Check.{Check}
 use Rattle.refusals.specs.declared.Check.the-variants as check
 use Rattle.refusals.specs.Row.{rowOf}
@@ -17,6 +18,7 @@ use Rattle.derivation.specs.Grammar.{Grammar}
 use Rattle.derivation.specs.computed.Table.{Table, entry, isFound, depths}
 use Rattle.derivation.specs.computed.RoundsOf.{roundsOf}
 use Rattle.derivation.specs.computed.FactCount.{total, factCount}
+use Rattle.derivation.specs.computed.Facts as is-fact
 use Rattle.derivation.specs.Branch.{branchNumbers}
 use Rattle.derivation.specs.Node.{NodeValue}
 use Rattle.derivation.specs.computed.Marks as of-line
@@ -29,7 +31,6 @@ use Rattle.grammar.specs.declared.reading.Reading.the-variants.{Accepted, Refus
 use Rattle.grammar.specs.Reading.{readOf}
 use Rattle.grammar.specs.Given.{sectionsGiven, grammarGiven}
 use Rattle.tree.specs.Bytes.{nodeBytes}
-use Rattle.tree.specs.Checks.{treeFact}
 use Rattle.examples.specs.Entry.{Graded, Question, chart, ends, marks, tree, forest, Work, asBefore, holding, Entry}
 use Rattle.examples.specs.Memory.{wordAt, numberAt}
 
@@ -94,9 +95,9 @@ module _ (g line : List ℕ) where
       every (λ A. every (rowTest facts t A) (suc (length line))) (length (G .categories))
 
   -- the nodes shown, or the refusal of what is no fact
-  unfoldable pub treeTest : ℕ → ℕ → ℕ → List NodeValue → Told → Check → Bool
-  treeTest A i j nodes told check.Passed = sameBy nodeBytes nodes (shown G line A i j) && sameTold told (answered (length nodes ∷ []))
-  treeTest A i j nodes told (check.Refused refusal) = sameBy nodeBytes nodes [] && sameTold told (refused (rowOf refusal))
+  unfoldable pub treeTest : ℕ → ℕ → ℕ → List NodeValue → Told → Bool → Bool
+  treeTest A i j nodes told true = sameBy nodeBytes nodes (shown G line A i j) && sameTold told (answered (length nodes ∷ []))
+  treeTest A i j nodes told false = sameBy nodeBytes nodes [] && sameTold told (refused (rowOf TreeOfNoFact))
 
   -- a question's own check, what is told and what is written
   unfoldable pub answerTest : List Graded → Question → Told → Bool
@@ -105,7 +106,7 @@ module _ (g line : List ℕ) where
       let row = wordAt facts width (A * width + i) in
       passes (startCheck (sectionsGiven g .categories) (length line) A i) && sameTold told (answered (row ∷ countBelow 64 row ∷ trailingZeros 64 row ∷ []))
   answerTest facts (marks new) told = same new (of-line.marks G line) && sameTold told (answered (total (λ t. getD new t 0) (length line) ∷ []))
-  answerTest facts (tree A i j nodes) told = passes (spanCheck (sectionsGiven g .categories) (length line) A i j) && treeTest A i j nodes told (treeFact G line A i j)
+  answerTest facts (tree A i j nodes) told = passes (spanCheck (sectionsGiven g .categories) (length line) A i j) && treeTest A i j nodes told (is-fact.facts G line A i j)
   answerTest facts (forest branches) told = sameBy branchNumbers branches (records.forest G line) && sameTold told (answered (length branches ∷ []))
 
   -- an accepted grammar: the line passes, the work memory is filled, and the question is answered

@@ -1,23 +1,28 @@
 -- What the program prints, for every input: the lines, the pieces that they make, and the pieces put together.
 use Prim.Native.Nat.{ℕ}
 use mathlib.Core.List.{List, [], _∷_, _++_, map, flatten}
-use lib.ListN.{replicate}
+use lib.ListN.{length, replicate}
+use lib.Dec.{ltb}
+use mathlib.Core.Bool.{not}
 use Rattle.refusals.specs.declared.Refusal.{Refusal}
 use Rattle.refusals.specs.declared.Check.{Check}
 use Rattle.refusals.specs.declared.Check.the-variants as check
 use Rattle.refusals.specs.Row.{rowOf}
-use Rattle.refusals.specs.Order.{reported}
+use Rattle.refusals.specs.declared.Refusal.the-variants.{TreeOfNoFact, TreeTooSmall}
+use Rattle.refusals.specs.Order.{andThen, early, reported}
 use Rattle.derivation.specs.Grammar.{Grammar}
 use Rattle.derivation.specs.computed.Table.{depthOf}
 use Rattle.derivation.specs.computed.RoundsOf.{roundsOf}
 use Rattle.derivation.specs.computed.FactCount.{factCount}
 use Rattle.derivation.specs.FactList.{Span, spanNumbers}
-use Rattle.derivation.specs.computed.Facts.{factList}
+use Rattle.derivation.specs.computed.Facts.{facts, factList}
 use Rattle.derivation.specs.computed.Marks.{marks}
 use Rattle.derivation.specs.Node.{NodeValue}
 use Rattle.derivation.specs.computed.Shown.{shown}
 use Rattle.grammar.specs.Given.{grammarGiven}
 use Rattle.chart.specs.Checks.{chartChecks}
+use Rattle.checks.specs.Question.{refuseIf}
+use Rattle.tree.specs.Bytes.{bytes}
 use Rattle.tree.specs.Checks.{treeChecks}
 use Rattle.report.specs.declared.job.JobReading.{JobReading}
 use Rattle.report.specs.declared.job.JobReading.the-variants.{Read, Refused}
@@ -59,6 +64,13 @@ marksLine G line = marksOf (marks G line)
 unfoldable pub nodeLine : NodeValue → List ℕ
 nodeLine x = numbered "node" (x .kind ∷ x .number ∷ x .start ∷ x .end ∷ [])
 
+-- what is found of a tree question, computed: the first checks, then whether it is asked of a fact, then the room for its bytes
+abbrev pub treeVerdict : (g line : List ℕ) → (A i j : ℕ) → (words depths out : List ℕ) → Check
+treeVerdict g line A i j words depths out =
+    andThen (early (treeChecks g line A i j words depths))
+    (andThen (refuseIf (not (facts (grammarGiven g) line A i j)) TreeOfNoFact)
+    (refuseIf (ltb (length out) (length (bytes (shown (grammarGiven g) line A i j)))) TreeTooSmall))
+
 -- a refusal's line in place of these, or else these
 abbrev pub unlessRefused : Check → List (List ℕ) → List (List ℕ)
 unlessRefused (check.Refused refusal) these = refusedLine refusal ∷ []
@@ -70,7 +82,7 @@ module _ (g line : List ℕ) where
   treeLines q =
       numbered "tree" (spanNumbers q)
       ++ flatten
-      (unlessRefused (reported (treeChecks g line (q .category) (q .start) (q .end) lentWords lentDepths lentTree))
+      (unlessRefused (treeVerdict g line (q .category) (q .start) (q .end) lentWords lentDepths lentTree)
       (map nodeLine (shown (grammarGiven g) line (q .category) (q .start) (q .end))))
 
   -- the piece of rounds and facts with each fact, that of the marks, and one for each question

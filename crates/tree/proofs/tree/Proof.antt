@@ -7,7 +7,7 @@ use Rattle.checks.proofs.Laws.{span-passed}
 use Rattle.grammar.specs.Reading.{readOf}
 use Rattle.grammar.specs.Given.{grammarGiven}
 use Rattle.chart.proofs.CheckLaws.{Passes, checked-refused, checked-accepted, sections, line-is, asked-is, memory-is}
-use Rattle.tree.specs.Checks.{treeFact, treeRoom}
+use Rattle.refusals.specs.declared.Check.the-variants.{Passed}
 use Rattle.tree.proofs.OutcomeLaws.{tree-turned, filled-kept, filled-rows, tree-shown}
 use borrow.Author.Needs.{needs}
 use Rattle.tree.proofs.tree.Statement.{statement}
@@ -37,9 +37,7 @@ returns c =
     let a = c .before .before .before .before .before .before .before .before .before .args in
     let asked = Span (a .category) (a .start) (a .end) in
     let G = grammarGiven (now (a .g)) in
-    let fact = treeFact G (now (a .line)) (a .category) (a .start) (a .end) in
-    let room = treeRoom G (now (a .line)) (a .category) (a .start) (a .end) (now (a .out)) in
-    tree-turned _ _ _ _ _ _ _ _ _ (checked-refused (readOf (now (a .g))) G (now (a .line)) asked (now (a .words)) (now (a .depths)) fact room _ (sym (c .before .before .before .checked .ensures) ∙ c .before .refusal .given .1))
+    tree-turned _ _ _ _ _ _ _ _ _ (checked-refused (readOf (now (a .g))) G (now (a .line)) asked (now (a .words)) (now (a .depths)) Passed Passed _ (sym (c .before .before .before .checked .ensures) ∙ c .before .refusal .given .1))
 
 enum-known-s : tie.Need-enum-known-s
 enum-known-s c = search needs
