@@ -3,7 +3,6 @@ use Prim.Native.Nat.{ℕ}
 use mathlib.Core.Path.{_≡_, sym, ap, _∙_}
 use mathlib.Core.List.{List, [], _∷_}
 use lib.ListN.{length}
-use Rattle.refusals.specs.declared.Check.the-variants as check
 use Rattle.refusals.specs.Told as told
 use Rattle.positions.specs.Count.{countBelow}
 use Rattle.positions.proofs.Members.{same-members}

@@ -7,7 +7,6 @@ ghost use Rattle.checks.specs.Line.{IsLine};
 ghost use Rattle.checks.specs.Memory.{chartSize, depthsSize};
 ghost use Rattle.grammar.specs.Value.{Sectioned, grammarOf};
 ghost use Rattle.grammar.specs.inner.Starts.{Starts};
-ghost use Rattle.filling.specs.inner.Mask.{Masks};
 ghost use Rattle.filling.specs.inner.Round.{RulesApplied};
 ghost use Rattle.filling.specs.Filled.{Filled};
 use super::commit::commit;

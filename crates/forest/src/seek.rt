@@ -1,8 +1,7 @@
 // The first record from some place on.
 ghost use mathlib.Core.Path.{_≡_};
-ghost use Prim.Native.Nat.{ℕ, _+_, _≤_, _<_};
+ghost use Prim.Native.Nat.{_+_, _≤_, _<_};
 ghost use lib.ListN.{length};
-ghost use Rattle.positions.specs.Member.{Member};
 ghost use Rattle.grammar.specs.Value.{standing, startOf};
 ghost use Rattle.grammar.specs.Given.{sectionsGiven};
 ghost use Rattle.forest.specs.inner.Charted.{Charted, Standing};

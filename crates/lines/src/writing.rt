@@ -1,5 +1,4 @@
 // Writes a printed line: a word, numbers with a space before each, and byte 10.
-ghost use mathlib.Core.Path.{_≡_};
 ghost use mathlib.Core.List.{_∷_, [], _++_, map};
 ghost use Prim.Native.Nat.{_+_, _≤_};
 ghost use lib.ListN.{length};

@@ -16,7 +16,6 @@ use Rattle.derivation.proofs.Table.{at-listed}
 use Rattle.derivation.proofs.Secret.{secret-iff}
 use Rattle.marks.specs.Marks.{MarkIs, marked, unmarked, MarksAre}
 use Rattle.derivation.proofs.Totals.{total-same}
-use Rattle.refusals.specs.declared.Check.the-variants as check
 use Rattle.refusals.specs.Order.{Checks}
 use Rattle.refusals.specs.Told as told
 use Rattle.checks.proofs.Laws.{one-refusal, not-both, reported-passed}

@@ -1,6 +1,6 @@
 -- `chart::chart` meets its contract: at each `return` what the checks and the filling gave is the outcome.
 use Prim.Native.Nat.{_≤_}
-use mathlib.Core.Path.{_≡_, sym, _∙_}
+use mathlib.Core.Path.{sym, _∙_}
 use native.Mathlib.Nat.{le-trans, le-of-eq}
 use native.Mathlib.Omega.{arith}
 use borrow.Author.Needs.{needs}

@@ -1,6 +1,6 @@
 -- `forest::prepare` meets its contract: at each `return` what the checks, the filling, the counting and the search gave is the plan.
 use Prim.Native.Nat.{ℕ}
-use mathlib.Core.Path.{_≡_, sym, _∙_}
+use mathlib.Core.Path.{sym, _∙_}
 use native.Mathlib.Omega.{arith}
 use borrow.Author.Needs.{needs}
 use lib.ListN.{length}

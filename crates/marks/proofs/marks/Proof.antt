@@ -1,5 +1,5 @@
 -- `marks::marks` meets its contract: at each `return` what the checks, the filling and the marking gave is the outcome.
-use mathlib.Core.Path.{_≡_, sym, _∙_}
+use mathlib.Core.Path.{sym, _∙_}
 use native.Mathlib.Nat.{le-trans, le-of-eq}
 use borrow.Author.Needs.{needs}
 use lib.ListN.{length}
