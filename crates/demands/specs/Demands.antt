@@ -1,0 +1,112 @@
+-- The user's three demands, each a statement over the results that the questions' own outcomes allow.
+use Prim.Native.Nat.{ℕ, _+_, _*_, _-_, _≤_, _<_}
+use mathlib.Core.Path.{_≡_}
+use mathlib.Core.Logic.{_↔_, _⊎_}
+use mathlib.Core.List.{List, [], _∷_, _++_, List·Memᴰ, map}
+use lib.ListN.{length, getD, drop}
+use Rattle.refusals.specs.declared.Row.{Row}
+use Rattle.refusals.specs.Told.{Told, answered, refused}
+use Rattle.positions.specs.Member.{Member}
+use Rattle.positions.specs.Count.{countBelow}
+use Rattle.positions.specs.First.{First}
+use Rattle.derivation.specs.Grammar.{Grammar}
+use Rattle.derivation.specs.Tree.{Tree, height}
+use Rattle.derivation.specs.Fact.{Fact}
+use Rattle.derivation.specs.Depth.{Depth}
+use Rattle.derivation.specs.Rewriting.{Rewrites, stretch}
+use Rattle.derivation.specs.Ascending.{Ascending}
+use Rattle.derivation.specs.FactList.{Span, spanNumbers}
+use Rattle.derivation.specs.Rounds.{RoundsIs}
+use Rattle.derivation.specs.Branch.{BranchValue, ForestIs}
+use Rattle.derivation.specs.Node.{preorder}
+use Rattle.derivation.specs.Choice.{Chosen}
+use Rattle.checks.specs.Memory.{chartSize, depthsSize}
+use Rattle.tree.specs.Bytes.{bytes}
+use Rattle.forest.specs.declared.Branch.{Branch}
+use Rattle.forest.specs.Record.{recordOf}
+use Rattle.demands.specs.Question.{Input, Query, chart, ends, marks, tree, forest, rowBefore, Result, Allowed}
+use Rattle.demands.specs.TurnedDown.{Encodes, AllRight, TurnedDown}
+
+-- past its first entries, as many as `size`, memory is as it was
+pub record KeptPast (size : ℕ) (before after : List ℕ) : Type 0 where
+  pub long : length after ≡ length before
+  pub past : (p : ℕ) → size ≤ p → getD after p 0 ≡ getD before p 0
+
+-- a question that tells this has filled the work memory: it answered, or it was turned down by 10 or 11
+pub data Fills : Told → Type 0 where
+  answers : {values : List ℕ} → Fills (answered values)
+  late : {row : Row} → 10 ≤ row .number → Fills (refused row)
+
+-- Demand 1. Grammar, line and questions may be any bytes and numbers.
+pub record Demand1 : Type 0 where
+  -- whatever is handed in, one result is allowed, and no other
+  pub one : (x : Input) (q : Query) → (r : Result q) × Allowed x q r × ((s : Result q) → Allowed x q s → s ≡ r)
+  -- a question is turned down exactly as the document's table says, by number and place
+  pub refusals : (x : Input) (q : Query) (r : Result q) → Allowed x q r → (row : Row) → (r .told ≡ refused row) ↔ TurnedDown x q row
+  -- after 1 to 9 all lent memory is as it was
+  pub unchanged : (x : Input) (q : Query) (r : Result q) → Allowed x q r → (row : Row) → r .told ≡ refused row → row .number ≤ 9 →
+      (r .words ≡ x .words) × (r .depths ≡ x .depths) × (r .row ≡ rowBefore q)
+  -- after 10 and 11 the row that is lent for marks, nodes or records is as it was
+  pub late : (x : Input) (q : Query) (r : Result q) → Allowed x q r → (row : Row) → r .told ≡ refused row → r .row ≡ rowBefore q
+  -- the work memory is filled exactly when all that is looked at before is right
+  pub fills : (x : Input) (q : Query) (r : Result q) → Allowed x q r → Fills (r .told) ↔ ((G : Grammar) × AllRight G x q)
+  -- and past the chart and the depths of the line it is then as it was
+  pub past : (x : Input) (q : Query) (r : Result q) → Allowed x q r → (G : Grammar) → AllRight G x q →
+      KeptPast (chartSize (length (G .categories)) (length (x .line))) (x .words) (r .words)
+      × KeptPast (depthsSize (length (G .categories)) (length (x .line))) (x .depths) (r .depths)
+
+-- a question on x that filled the work memory ends with r; G is the grammar
+pub record Reports (G : Grammar) (x : Input) (q : Query) (r : Result q) : Type 0 where
+  pub grammar : Encodes G (x .grammar)
+  pub allowed : Allowed x q r
+  pub fills : Fills (r .told)
+
+-- the category A rewrites to the tokens of i..j
+abbrev pub Derives : Grammar → List ℕ → (A i j : ℕ) → Type 0
+Derives G line A i j = (i ≤ j) × (j ≤ length line) × Rewrites G ((128 + A) ∷ []) (stretch line i j)
+
+-- l lists all (A, i, j) such that A rewrites to the tokens of i..j, ascending, each once
+pub record DerivedAre (G : Grammar) (line : List ℕ) (l : List Span) : Type 0 where
+  pub each : (s : Span) → List·Memᴰ s l ↔ Derives G line (s .category) (s .start) (s .end)
+  pub ascending : Ascending spanNumbers l
+
+-- the class of token t is flagged, or a secret category rewrites to a stretch that covers it
+pub data IsSecret (G : Grammar) (line : List ℕ) (t : ℕ) : Type 0 where
+  flagged : getD (G .classes) (getD line t 0) 0 ≡ 1 → IsSecret G line t
+  covered : (A i j : ℕ) → getD (G .categories) A 0 ≡ 1 → Derives G line A i j → i ≤ t → t < j → IsSecret G line t
+
+-- Demand 2. A category is reported from one place to another exactly when the grammar derives those tokens from it, in the textbook sense.
+pub record Demand2 : Type 0 where
+  -- bit j of word A×(n+1)+i is set exactly when A rewrites to the tokens of i..j
+  pub words : {G : Grammar} {x : Input} {q : Query} {r : Result q} → Reports G x q r → (A i j : ℕ) → A < length (G .categories) → i ≤ length (x .line) →
+      Member (getD (r .words) (A * (length (x .line) + 1) + i) 0) j ↔ Derives G (x .line) A i j
+  -- Chart counts exactly these
+  pub counted : {G : Grammar} {x : Input} {r : Result chart} → Reports G x chart r → (rounds facts : ℕ) → r .told ≡ answered (rounds ∷ facts ∷ []) →
+      (l : List Span) × DerivedAre G (x .line) l × (length l ≡ facts)
+  -- the row that Ends tells shows exactly the ends of A from i; then how many they are, and the smallest
+  pub shown : {G : Grammar} {x : Input} {A i : ℕ} {r : Result (ends A i)} → Reports G x (ends A i) r → (row count smallest : ℕ) → r .told ≡ answered (row ∷ count ∷ smallest ∷ []) →
+      ((j : ℕ) → Member row j ↔ Derives G (x .line) A i j) × (count ≡ countBelow 64 row) × First row smallest
+  -- where Marks answers, the mark of a token is 1 where it is secret, and 0 where it is not
+  pub marked : {G : Grammar} {x : Input} {row : List ℕ} {r : Result (marks row)} → Reports G x (marks row) r → (secret : ℕ) → r .told ≡ answered (secret ∷ []) →
+      (t : ℕ) → t < length (x .line) →
+      ((getD (r .row) t 0 ≡ 1) ↔ IsSecret G (x .line) t) × ((getD (r .row) t 0 ≡ 0) ↔ ¬ IsSecret G (x .line) t)
+
+-- the number kept for (A, i, j)
+abbrev pub depthKept : List ℕ → List ℕ → (A i j : ℕ) → ℕ
+depthKept depths line A i j = getD depths ((A * (length line + 1) + i) * (length line + 1) + j) 0
+
+-- Demand 3. A span's depth is the least height of any derivation tree for it.
+pub record Demand3 : Type 0 where
+  -- the number kept for a fact is the least height of its trees, at most N×(j-i+1); for what is no fact it is 0
+  pub depth : {G : Grammar} {x : Input} {q : Query} {r : Result q} → Reports G x q r → (A i j : ℕ) → A < length (G .categories) → i ≤ length (x .line) → j ≤ length (x .line) →
+      (Fact G (x .line) A i j → Depth G (x .line) A i j (depthKept (r .depths) (x .line) A i j) × (depthKept (r .depths) (x .line) A i j ≤ length (G .categories) * (j - i + 1)))
+      × (¬ Fact G (x .line) A i j → depthKept (r .depths) (x .line) A i j ≡ 0)
+  -- rounds is the greatest depth of a fact, 0 without facts
+  pub rounds : {G : Grammar} {x : Input} {r : Result chart} → Reports G x chart r → (rounds facts : ℕ) → r .told ≡ answered (rounds ∷ facts ∷ []) → RoundsIs G (x .line) rounds
+  -- Tree writes the nodes, in preorder, of a derivation tree of (A, i, j) of exactly its depth, with the document's choice at every node
+  pub shown : {G : Grammar} {x : Input} {A i j : ℕ} {row : List ℕ} {r : Result (tree A i j row)} → Reports G x (tree A i j row) r → (nodes : ℕ) → r .told ≡ answered (nodes ∷ []) →
+      (t : Tree G (x .line) A i j) × Chosen t × (height t ≡ depthKept (r .depths) (x .line) A i j)
+      × (nodes ≡ length (preorder t)) × (r .row ≡ bytes (preorder t) ++ drop (length (bytes (preorder t))) row)
+  -- Forest writes exactly the records, ascending, each once
+  pub listed : {G : Grammar} {x : Input} {rows : List Branch} {r : Result (forest rows)} → Reports G x (forest rows) r → (count : ℕ) → r .told ≡ answered (count ∷ []) →
+      (records : List BranchValue) × ForestIs G (x .line) records × (count ≡ length records) × (r .row ≡ map recordOf records ++ drop count rows)

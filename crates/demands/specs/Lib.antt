@@ -1,0 +1,3 @@
+pub mod Question
+pub mod TurnedDown
+pub mod Demands
