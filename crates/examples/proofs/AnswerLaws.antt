@@ -64,8 +64,8 @@ use Rattle.examples.specs.Entry.{Graded, Question, chart, ends, marks, t
 use Rattle.examples.specs.Memory.{wordAt, overwritten, Lent, wordsAfter, depthsAfter}
 use Rattle.examples.specs.Claim.{OutcomeIs}
 use Rattle.examples.proofs.Test.{same, sameBy, sameTold, passes, workTest, treeTest, answerTest}
-use Rattle.examples.proofs.TestLaws.{same-is, same-by, node-one, branch-one, told-is, passes-is}
 use Rattle.examples.proofs.OnlyLaws.{chart-only, ends-only, marks-only, tree-only, forest-only}
+use Rattle.examples.proofs.TestLaws.{same-is, same-by, node-one, branch-one, told-is, passes-is}
 use Rattle.examples.proofs.WorkLaws.{written-long, written-at, written-past, word-shows, work-filled}
 
 -- marks that are the computed ones, over any old contents
@@ -105,16 +105,16 @@ module _ (g line : List ℕ) (read : readOf g ≡ Accepted (sectionsGiven g)) (i
 
   chart-holds : (told : Told) → answerTest g line facts chart told ≡ true → OutcomeIs g line chart told (holding facts)
   unfolding answerTest
-  chart-holds told t = λ words depths lent.
-      chart-only
-      (chart-answer.Filled (roundsOf G line) (factCount G line))
-      (sym (told-is told _ t))
-      (chart-outcome.filled {rounds = roundsOf G line} {facts = factList G line}
-          (rw (passed words depths lent Nothing check.Passed check.Passed refl))
-          (ap (λ (n : ℕ). answered (roundsOf G line ∷ n ∷ [])) (sym (length-factList G line)))
-          (roundsOf-is G line proper)
-          (factList-is G line proper)
-          (work words depths lent))
+  chart-holds told t = λ words depths lent. chart-only (
+    chart-answer.Filled (roundsOf G line) (factCount G line),
+    sym (told-is told _ t),
+    chart-outcome.filled {rounds = roundsOf G line} {facts = factList G line}
+        (rw (passed words depths lent Nothing check.Passed check.Passed refl))
+        (ap (λ (n : ℕ). answered (roundsOf G line ∷ n ∷ [])) (sym (length-factList G line)))
+        (roundsOf-is G line proper)
+        (factList-is G line proper)
+        (work words depths lent),
+  )
 
   ends-holds : (A i : ℕ) (told : Told) → answerTest g line facts (ends A i) told ≡ true → OutcomeIs g line (ends A i) told (holding facts)
   unfolding answerTest
@@ -123,17 +123,17 @@ module _ (g line : List ℕ) (read : readOf g ≡ Accepted (sectionsGiven g)) (i
       let p = and-parts (passes (startCheck (sectionsGiven g .categories) (length line) A i)) (sameTold told (answered (row ∷ countBelow 64 row ∷ trailingZeros 64 row ∷ []))) t in
       let question = passes-is (startCheck (sectionsGiven g .categories) (length line) A i) (p .0) in
       let inside = start-passed (sectionsGiven g .categories) (length line) A i question in
-      λ words depths lent.
-      ends-only
-      (ends-answer.Row row (countBelow 64 row) (trailingZeros 64 row))
-      (sym (told-is told _ (p .1)))
-      (ends-outcome.found {row = row} {count = countBelow 64 row} {smallest = trailingZeros 64 row}
-          (rw (passed words depths lent (Start A i) check.Passed check.Passed question))
-          refl
-          (word-shows g line proper facts filled A i (rw categories (inside .0)) (inside .1))
-          refl
-          (first-trailing row)
-          (work words depths lent))
+      λ words depths lent. ends-only (
+        ends-answer.Row row (countBelow 64 row) (trailingZeros 64 row),
+        sym (told-is told _ (p .1)),
+        ends-outcome.found {row = row} {count = countBelow 64 row} {smallest = trailingZeros 64 row}
+            (rw (passed words depths lent (Start A i) check.Passed check.Passed question))
+            refl
+            (word-shows g line proper facts filled A i (rw categories (inside .0)) (inside .1))
+            refl
+            (first-trailing row)
+            (work words depths lent),
+      )
 
   marks-holds : (new : List ℕ) (told : Told) → answerTest g line facts (marks new) told ≡ true → OutcomeIs g line (marks new) told (holding facts)
   unfolding answerTest of-line.marks
@@ -142,12 +142,12 @@ module _ (g line : List ℕ) (read : readOf g ≡ Accepted (sectionsGiven g)) (i
       let p = and-parts (same new (of-line.marks G line)) (sameTold told (answered (secret ∷ []))) t in
       let is = same-is new (of-line.marks G line) (p .0) in
       let long : length new ≡ length line = rw is (length-listed _ 0 (length line)) in
-      λ words depths row lent room.
-      marks-only
-      (marks-answer.Marked secret)
-      (sym (told-is told _ (p .1)))
-      (marks-answered g line words depths row (sectionsGiven g) (first words depths lent Nothing refl) secret _ _ (overwritten new row) (omega arith) (work words depths lent)
-          (marks-are G line new row proper is (omega arith)))
+      λ words depths row lent room. marks-only (
+        marks-answer.Marked secret,
+        sym (told-is told _ (p .1)),
+        marks-answered g line words depths row (sectionsGiven g) (first words depths lent Nothing refl) secret _ _ (overwritten new row) (omega arith) (work words depths lent)
+            (marks-are G line new row proper is (omega arith)),
+      )
 
   tree-holds : (A i j : ℕ) (nodes : List NodeValue) (told : Told) → spanCheck (sectionsGiven g .categories) (length line) A i j ≡ check.Passed → (c : Bool) → is-fact.facts G line A i j ≡ c → treeTest g line A i j nodes told c ≡ true →
       OutcomeIs g line (tree A i j nodes) told (holding facts)
@@ -156,31 +156,31 @@ module _ (g line : List ℕ) (read : readOf g ≡ Accepted (sectionsGiven g)) (i
       let p = and-parts (sameBy nodeBytes nodes (shown G line A i j)) (sameTold told (answered (length nodes ∷ []))) t in
       let chosen = chosen-exists G line proper (depth-exists G line (facts-exact G line proper A i j .0 fact) .1) in
       let is : nodes ≡ preorder (chosen .0) = same-by nodeBytes node-one nodes (shown G line A i j) (p .0) ∙ chosen .3 in
-      λ words depths row lent room.
-      tree-only
-      (tree-answer.Nodes (length nodes))
-      (sym (told-is told _ (p .1)))
-      (tree-outcome.shows
-          (chosen .0)
-          (passed words depths lent (Span A i j) check.Passed check.Passed question)
-          (chosen .1)
-          (rw is at room)
-          (ap (λ (l : List NodeValue). answered (length l ∷ [])) is)
-          (work words depths lent)
-          (ap (λ (l : List NodeValue). overwritten (bytes l) row) is))
+      λ words depths row lent room. tree-only (
+        tree-answer.Nodes (length nodes),
+        sym (told-is told _ (p .1)),
+        tree-outcome.shows
+            (chosen .0)
+            (passed words depths lent (Span A i j) check.Passed check.Passed question)
+            (chosen .1)
+            (rw is at room)
+            (ap (λ (l : List NodeValue). answered (length l ∷ [])) is)
+            (work words depths lent)
+            (ap (λ (l : List NodeValue). overwritten (bytes l) row) is),
+      )
   tree-holds A i j nodes told question false fact t =
       let p = and-parts (sameBy nodeBytes nodes []) (sameTold told (refused (rowOf TreeOfNoFact))) t in
       let none = same-by nodeBytes node-one nodes [] (p .0) in
-      λ words depths row lent room.
-      tree-only
-      (tree-answer.Refused TreeOfNoFact)
-      (sym (told-is told _ (p .1)))
-      (tree-outcome.noFact
-          (passed words depths lent (Span A i j) check.Passed check.Passed question)
-          (λ f. true≢false (sym (facts-exact G line proper A i j .1 f) ∙ fact))
-          refl
-          (work words depths lent)
-          (rw none))
+      λ words depths row lent room. tree-only (
+        tree-answer.Refused TreeOfNoFact,
+        sym (told-is told _ (p .1)),
+        tree-outcome.noFact
+            (passed words depths lent (Span A i j) check.Passed check.Passed question)
+            (λ f. true≢false (sym (facts-exact G line proper A i j .1 f) ∙ fact))
+            refl
+            (work words depths lent)
+            (rw none),
+      )
 
   forest-holds : (branches : List derivation.BranchValue) (told : Told) → answerTest g line facts (forest branches) told ≡ true → OutcomeIs g line (forest branches) told (holding facts)
   unfolding answerTest
@@ -188,17 +188,17 @@ module _ (g line : List ℕ) (read : readOf g ≡ Accepted (sectionsGiven g)) (i
       let p = and-parts (sameBy derivation.branchNumbers branches (records.forest G line)) (sameTold told (answered (length branches ∷ []))) t in
       let is = same-by derivation.branchNumbers branch-one branches (records.forest G line) (p .0) in
       λ words depths rows lent room.
-      let fits : length (records.forest G line) ≤ length rows = rw is at room in
-      forest-only
-      (forest-answer.Records (length branches))
-      (sym (told-is told _ (p .1)))
-      (forest-outcome.answered
-          (passed words depths lent Nothing check.Passed check.Passed refl)
-          (forest-is proper)
-          fits
-          (ap (λ (l : List derivation.BranchValue). answered (length l ∷ [])) is)
-          (work words depths lent)
-          (ap (λ (l : List derivation.BranchValue). overwritten (map recordOf l) rows) is ∙ rw (length-map (records.forest G line) recordOf)))
+      let fits : length (records.forest G line) ≤ length rows = rw is at room in forest-only (
+        forest-answer.Records (length branches),
+        sym (told-is told _ (p .1)),
+        forest-outcome.answered
+            (passed words depths lent Nothing check.Passed check.Passed refl)
+            (forest-is proper)
+            fits
+            (ap (λ (l : List derivation.BranchValue). answered (length l ∷ [])) is)
+            (work words depths lent)
+            (ap (λ (l : List derivation.BranchValue). overwritten (map recordOf l) rows) is ∙ rw (length-map (records.forest G line) recordOf)),
+      )
 
   pub answer-holds : (question : Question) (told : Told) → answerTest g line facts question told ≡ true → OutcomeIs g line question told (holding facts)
   unfolding answerTest

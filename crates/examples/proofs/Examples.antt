@@ -3,6 +3,8 @@ use Prim.Native.Nat.{ℕ}
 use mathlib.Core.Path.{_≡_, refl, sym, _∙_}
 use mathlib.Core.Bool.{true, _&&_, false≢true}
 use mathlib.Core.List.{List, [], _∷_, map, flatten, List·Memᴰ, List·Memᴰ·head, List·Memᴰ·tail, List·Memᴰ·not-nil}
+use native.Mathlib.Omega.{arith}
+use lib.ListN.{length}
 use lib.Count.{trailingZeros}
 use lib.Dec.{eqb}
 use borrow.Author.Tests.{eqb-true}
@@ -11,6 +13,8 @@ use Rattle.positions.specs.Member.{digit}
 use Rattle.positions.specs.Count.{countBelow}
 use Rattle.derivation.specs.Bound.{depthBound}
 use Rattle.derivation.specs.Grammar.{Grammar}
+use Rattle.derivation.specs.Tree.{node}
+use Rattle.derivation.specs.Fact.{Fact}
 use Rattle.derivation.specs.Depth.{Depth, DepthIs, noFact, deep}
 use Rattle.derivation.specs.computed.Search.{some, firstFrom}
 use Rattle.derivation.specs.computed.Listing.{listed, gathered, kept}
@@ -36,18 +40,18 @@ use Rattle.grammar.specs.Given.{sectionsGiven, grammarGiven}
 use Rattle.grammar.proofs.Encoded.{accepted-proper}
 use Rattle.lines.specs.Lines.{text, spaced, lineOf}
 use Rattle.report.proofs.Examples.{documentJob, documentOutput, examples}
-use Rattle.examples.specs.Entry.{Graded, Question, Work, asBefore, holding, Entry, outcome, meetsBound, prints}
+use Rattle.examples.specs.Entry.{Graded, Question, Work, asBefore, holding, Entry, outcome, noFacts, meetsBound, prints}
 use Rattle.examples.specs.Memory.{wordAt, numberAt}
 use Rattle.examples.specs.Claim.{OutcomeIs, Holds}
 use Rattle.examples.specs.Table.{table}
-use Rattle.examples.proofs.Test.{every, same, sameBy, sameTold, passes, writesNothing, placeTest, rowTest, workTest, treeTest, answerTest, filledTest, turnedTest, readTest, boundTest, test, all}
+use Rattle.examples.proofs.Test.{every, same, sameBy, sameTold, passes, writesNothing, placeTest, rowTest, workTest, treeTest, answerTest, filledTest, turnedTest, readTest, noFactsTest, boundTest, test, all}
 use Rattle.examples.proofs.TestLaws.{same-is, passes-is}
 use Rattle.examples.proofs.TurnedLaws.{turned-holds}
 use Rattle.examples.proofs.AnswerLaws.{answer-holds}
 
 -- the computed test: every entry of the table passes
 pub all-pass : (line : List ℕ) (A i j b : ℕ) → all (table line A i j b) ≡ true
-unfolding table all test text lineOf spaced boundTest readTest turnedTest filledTest answerTest treeTest workTest rowTest placeTest writesNothing passes sameTold sameBy same every wordAt numberAt trailingZeros digit countBelow readOf sectionsOf flagsSection rulesSection rulesFrom ruleFrom eachFrom grammarOf rulesAt standing lineCheck tokensFrom startCheck spanCheck roundsOf greatest factCount total facts forest passing isBranch gathered kept marks secret covered shown chosen chosenRow chosenEnd chosenRule below firstFrom depthOf depths derivation.table listed isFound seen grade round children child tokenIs some flatten
+unfolding table all test text lineOf spaced boundTest noFactsTest readTest turnedTest filledTest answerTest treeTest workTest rowTest placeTest writesNothing passes sameTold sameBy same every wordAt numberAt trailingZeros digit countBelow readOf sectionsOf flagsSection rulesSection rulesFrom ruleFrom eachFrom grammarOf rulesAt standing lineCheck tokensFrom startCheck spanCheck roundsOf greatest factCount total facts forest passing isBranch gathered kept marks secret covered shown chosen chosenRow chosenEnd chosenRule below firstFrom depthOf depths derivation.table listed isFound seen grade round children child tokenIs some flatten
 all-pass line A i j b = refl
 
 -- a question's entry that passes holds
@@ -65,6 +69,19 @@ question-holds g line question told work t = go (readOf g) refl t
     go : (r : Reading) → readOf g ≡ r → readTest g line question told work r ≡ true → OutcomeIs g line question told work
     go (Accepted s) read ok = accepted read work ok
     go (Refused refusal) read ok = turned-holds g line refusal read question told work ok
+
+-- a grammar without rules has no fact
+without-rules : {G : Grammar} {line : List ℕ} {A i j : ℕ} → length (G .rules) ≡ 0 → Fact G line A i j → ⊥
+without-rules none (node p r children) = omega (arith, r .below)
+
+-- an entry of no facts that passes holds
+none-holds : (g : List ℕ) → noFactsTest g (readOf g) ≡ true → Holds (noFacts g)
+unfolding noFactsTest
+none-holds g t = go (readOf g) refl t
+  where
+    go : (r : Reading) → readOf g ≡ r → noFactsTest g r ≡ true → Holds (noFacts g)
+    go (Accepted s) read ok = (rw read, λ line A i j. without-rules (eqb-true (length (grammarGiven g .rules)) 0 ok))
+    go (Refused refusal) read ok = absurd (false≢true ok)
 
 -- a number kept that is found is the depth
 found-depth : {G : Grammar} {line : List ℕ} {A i j d : ℕ} → DepthIs G line A i j d → isFound d ≡ true → Depth G line A i j d
@@ -88,9 +105,10 @@ bound-holds g line fact t = go (readOf g) refl t
     go (Refused refusal) read ok = absurd (false≢true ok)
 
 -- a passing entry holds
-test-holds : (e : Entry) → test e ≡ true → Holds e
+pub test-holds : (e : Entry) → test e ≡ true → Holds e
 unfolding test
 test-holds (outcome g line question told work) t = question-holds g line question told work t
+test-holds (noFacts g) t = none-holds g t
 test-holds (meetsBound g line fact) t = bound-holds g line fact t
 test-holds (prints input lines) t =
     let output = flatten (map (λ line. lineOf line []) lines) in

@@ -24,32 +24,33 @@ use Rattle.forest.specs.Outcome.{ForestOutcome}
 use Rattle.forest.proofs.Unique.{forest-outcome-unique}
 use Rattle.examples.specs.Claim.{OnlyOutcome}
 
--- where any two outcomes that are allowed are equal
-module _ {Answer Memory : Type 0} (tells : Answer → Told) (Allows : Answer → Memory → Type 0) (one : (a b : Answer) (x y : Memory) → Allows a x → Allows b y → (a ≡ b) × (x ≡ y)) where
-  only-outcome : (answer : Answer) {told : Told} {memory : Memory} → tells answer ≡ told → Allows answer memory → OnlyOutcome tells Allows told memory
-  only-outcome answer {memory = memory} told allowed =
-      record {
-        allowed = (answer, told, allowed);
-        only = λ other left allowed′. let same = one answer other memory left allowed allowed′ in (rw (same .0) at told, sym (same .1));
-      }
+-- where any two outcomes that are allowed are equal, one that is allowed is the only one
+only-outcome : {Answer Memory : Type 0} {tells : Answer → Told} {Allows : Answer → Memory → Type 0} {told : Told} {memory : Memory} →
+    ((a b : Answer) (x y : Memory) → Allows a x → Allows b y → (a ≡ b) × (x ≡ y)) →
+    (answer : Answer) × (tells answer ≡ told) × Allows answer memory → OnlyOutcome tells Allows told memory
+only-outcome {memory = memory} one allowed =
+    record {
+      allowed = allowed;
+      only = λ other left also. let same = one (allowed .0) other memory left (allowed .2) also in (rw (same .0) at (allowed .1), sym (same .1));
+    }
 
 module _ {g line words depths words′ depths′ : List ℕ} {told : Told} where
-  pub chart-only : (answer : ChartAnswer) → chartTold answer ≡ told → ChartOutcome g line words depths answer words′ depths′ →
+  pub chart-only : (answer : ChartAnswer) × (chartTold answer ≡ told) × ChartOutcome g line words depths answer words′ depths′ →
       OnlyOutcome {Memory = List ℕ × List ℕ} chartTold (λ answer (words′, depths′). ChartOutcome g line words depths answer words′ depths′) told (words′, depths′)
-  chart-only answer tells allowed = only-outcome chartTold _ (λ a b x y p q. let same = chart-outcome-unique g line words depths p q in (same .0, λ k. (same .1 k, same .2 k))) answer tells allowed
+  chart-only = only-outcome (λ a b x y p q. let same = chart-outcome-unique g line words depths p q in (same .0, λ k. (same .1 k, same .2 k)))
 
-  pub ends-only : {A i : ℕ} (answer : EndsAnswer) → endsTold answer ≡ told → EndsOutcome g line A i words depths answer words′ depths′ →
+  pub ends-only : {A i : ℕ} → (answer : EndsAnswer) × (endsTold answer ≡ told) × EndsOutcome g line A i words depths answer words′ depths′ →
       OnlyOutcome {Memory = List ℕ × List ℕ} endsTold (λ answer (words′, depths′). EndsOutcome g line A i words depths answer words′ depths′) told (words′, depths′)
-  ends-only {A} {i} answer tells allowed = only-outcome endsTold _ (λ a b x y p q. let same = ends-outcome-unique g line words depths A i p q in (same .0, λ k. (same .1 k, same .2 k))) answer tells allowed
+  ends-only {A} {i} = only-outcome (λ a b x y p q. let same = ends-outcome-unique g line words depths A i p q in (same .0, λ k. (same .1 k, same .2 k)))
 
-  pub marks-only : {row row′ : List ℕ} (answer : MarksAnswer) → marksTold answer ≡ told → MarksOutcome g line words depths row answer words′ depths′ row′ →
+  pub marks-only : {row row′ : List ℕ} → (answer : MarksAnswer) × (marksTold answer ≡ told) × MarksOutcome g line words depths row answer words′ depths′ row′ →
       OnlyOutcome {Memory = List ℕ × List ℕ × List ℕ} marksTold (λ answer (words′, depths′, row′). MarksOutcome g line words depths row answer words′ depths′ row′) told (words′, depths′, row′)
-  marks-only {row} answer tells allowed = only-outcome marksTold _ (λ a b x y p q. let same = marks-outcome-unique g line words depths row p q in (same .0, λ k. (same .1 k, same .2 k, same .3 k))) answer tells allowed
+  marks-only {row} = only-outcome (λ a b x y p q. let same = marks-outcome-unique g line words depths row p q in (same .0, λ k. (same .1 k, same .2 k, same .3 k)))
 
-  pub tree-only : {A i j : ℕ} {row row′ : List ℕ} (answer : TreeAnswer) → treeTold answer ≡ told → TreeOutcome g line A i j words depths row answer words′ depths′ row′ →
+  pub tree-only : {A i j : ℕ} {row row′ : List ℕ} → (answer : TreeAnswer) × (treeTold answer ≡ told) × TreeOutcome g line A i j words depths row answer words′ depths′ row′ →
       OnlyOutcome {Memory = List ℕ × List ℕ × List ℕ} treeTold (λ answer (words′, depths′, row′). TreeOutcome g line A i j words depths row answer words′ depths′ row′) told (words′, depths′, row′)
-  tree-only answer tells allowed = only-outcome treeTold _ (λ a b x y p q. let same = tree-outcome-unique p q in (same .0, λ k. (same .1 k, same .2 k, same .3 k))) answer tells allowed
+  tree-only = only-outcome (λ a b x y p q. let same = tree-outcome-unique p q in (same .0, λ k. (same .1 k, same .2 k, same .3 k)))
 
-  pub forest-only : {rows rows′ : List Branch} (answer : ForestAnswer) → forestTold answer ≡ told → ForestOutcome g line words depths rows answer words′ depths′ rows′ →
+  pub forest-only : {rows rows′ : List Branch} → (answer : ForestAnswer) × (forestTold answer ≡ told) × ForestOutcome g line words depths rows answer words′ depths′ rows′ →
       OnlyOutcome {Memory = List ℕ × List ℕ × List Branch} forestTold (λ answer (words′, depths′, rows′). ForestOutcome g line words depths rows answer words′ depths′ rows′) told (words′, depths′, rows′)
-  forest-only {rows} answer tells allowed = only-outcome forestTold _ (λ a b x y p q. let same = forest-outcome-unique g line words depths rows p q in (same .0, λ k. (same .1 k, same .2 k, same .3 k))) answer tells allowed
+  forest-only {rows} = only-outcome (λ a b x y p q. let same = forest-outcome-unique g line words depths rows p q in (same .0, λ k. (same .1 k, same .2 k, same .3 k)))

@@ -33,7 +33,7 @@ use Rattle.grammar.specs.Given.{sectionsGiven, grammarGiven}
 use Rattle.tree.specs.Bytes.{nodeBytes}
 use Rattle.lines.specs.Lines.{text, lineOf}
 use Rattle.report.proofs.Examples.{documentJob, documentOutput}
-use Rattle.examples.specs.Entry.{Graded, Question, chart, ends, marks, tree, forest, Work, asBefore, holding, Entry, outcome, meetsBound, prints}
+use Rattle.examples.specs.Entry.{Graded, Question, chart, ends, marks, tree, forest, Work, asBefore, holding, Entry, outcome, noFacts, meetsBound, prints}
 use Rattle.examples.specs.Memory.{wordAt, numberAt}
 
 -- every number below n passes
@@ -125,6 +125,11 @@ module _ (g line : List ℕ) where
   readTest question told work (Accepted s) = filledTest question told work
   readTest question told work (Refused refusal) = turnedTest question told work refusal
 
+-- an accepted grammar without rules
+unfoldable pub noFactsTest : List ℕ → Reading → Bool
+noFactsTest g (Accepted s) = eqb (length (grammarGiven g .rules)) 0
+noFactsTest g (Refused refusal) = false
+
 -- a fact's depth, which is not 0, is the computed one and the bound
 unfoldable pub boundTest : List ℕ → List ℕ → Graded → Reading → Bool
 boundTest g line fact (Accepted s) =
@@ -136,6 +141,7 @@ boundTest g line fact (Refused refusal) = false
 -- of what is printed: it is what crate report shows of the document's job
 unfoldable pub test : Entry → Bool
 test (outcome g line question told work) = readTest g line question told work (readOf g)
+test (noFacts g) = noFactsTest g (readOf g)
 test (meetsBound g line fact) = boundTest g line fact (readOf g)
 test (prints input lines) = same input documentJob && same (flatten (map (λ line. lineOf line []) lines)) (text documentOutput)
 

@@ -1,12 +1,14 @@
--- The claim of an example: of all lent memory of sufficient size, whatever it held, the one outcome of the question is the one written out.
+-- What an example claims; of a question, that on all lent memory of sufficient size, whatever it held, the one outcome is the one written out.
 use Prim.Native.Nat.{ℕ, _≤_}
 use mathlib.Core.Path.{_≡_}
 use mathlib.Core.List.{List, [], map, flatten}
 use lib.ListN.{length}
+use Rattle.refusals.specs.declared.Check.the-variants as check
 use Rattle.refusals.specs.Told.{Told}
 use Rattle.derivation.specs.Bound.{depthBound}
+use Rattle.derivation.specs.Fact.{Fact}
 use Rattle.derivation.specs.Depth.{Depth}
-use Rattle.grammar.specs.Given.{grammarGiven}
+use Rattle.grammar.specs.Given.{grammarCheck, grammarGiven}
 use Rattle.chart.specs.Told.{chartTold, endsTold}
 use Rattle.chart.specs.ChartOutcome.{ChartOutcome}
 use Rattle.chart.specs.EndsOutcome.{EndsOutcome}
@@ -21,10 +23,10 @@ use Rattle.forest.specs.Record.{recordOf}
 use Rattle.forest.specs.Outcome.{ForestOutcome}
 use Rattle.lines.specs.Lines.{lineOf}
 use Rattle.report.specs.Printed.{printed}
-use Rattle.examples.specs.Entry.{Question, chart, ends, marks, tree, forest, Work, Entry, outcome, meetsBound, prints}
+use Rattle.examples.specs.Entry.{Question, chart, ends, marks, tree, forest, Work, Entry, outcome, noFacts, meetsBound, prints}
 use Rattle.examples.specs.Memory.{overwritten, Lent, wordsAfter, depthsAfter}
 
--- of the outcomes that a contract allows, there is one, and it tells this and leaves this memory
+-- a contract allows one outcome, and it tells this and leaves this memory
 pub record OnlyOutcome {Answer Memory : Type 0} (tells : Answer → Told) (Allows : Answer → Memory → Type 0) (told : Told) (memory : Memory) : Type 0 where
   -- an outcome that tells this and leaves this memory is allowed
   pub allowed : (answer : Answer) × (tells answer ≡ told) × Allows answer memory
@@ -56,6 +58,7 @@ OutcomeIs g line (forest branches) told work =
 
 abbrev pub Holds : Entry → Type 0
 Holds (outcome g line question told work) = OutcomeIs g line question told work
+Holds (noFacts g) = (grammarCheck g ≡ check.Passed) × ((line : List ℕ) (A i j : ℕ) → Fact (grammarGiven g) line A i j → ⊥)
 Holds (meetsBound g line fact) =
     Depth (grammarGiven g) line (fact .category) (fact .start) (fact .end) (fact .depth)
     × (fact .depth ≡ depthBound (grammarGiven g) (fact .start) (fact .end))

@@ -33,9 +33,11 @@ pub data Work : Type 0 where
 pub data Entry : Type 0 where
   -- grammar bytes, line and question; the values answered, or the number and place of the refusal; and the work memory afterwards
   outcome : List ℕ → List ℕ → Question → Told → Work → Entry
-  -- grammar bytes, line, and a fact whose depth is as great as the bound allows
+  -- grammar bytes that are accepted and have no fact on any line
+  noFacts : List ℕ → Entry
+  -- grammar bytes, line, and a fact with its depth, which meets the bound N×(j-i+1)
   meetsBound : List ℕ → List ℕ → Graded → Entry
-  -- the program's input, and the lines that it prints
+  -- the program's input, and the lines that it prints, each ended by byte 10
   prints : List ℕ → List String → Entry
 
 -- as they are printed: fact A i j depth, node kind number start end, and the record p d i m j

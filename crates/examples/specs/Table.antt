@@ -3,7 +3,7 @@ use Prim.Native.Nat.{ℕ}
 use Prim.Native.String.{String}
 use mathlib.Core.List.{List, [], _∷_, _++_}
 use Rattle.refusals.specs.Told.{answered}
-use Rattle.examples.specs.Entry.{Graded, Question, chart, ends, marks, tree, forest, asBefore, holding, Entry, outcome, meetsBound, prints, fact, node, branch, refusedBy}
+use Rattle.examples.specs.Entry.{Graded, Question, chart, ends, marks, tree, forest, asBefore, holding, Entry, outcome, noFacts, meetsBound, prints, fact, node, branch, refusedBy}
 
 -- 1. The job: A → A 1 0 and A → 0, A secret
 abbrev jobGrammar : List ℕ
@@ -146,7 +146,7 @@ secretEmpty =
     ∷ outcome (1 ∷ 0 ∷ 1 ∷ 1 ∷ 1 ∷ 0 ∷ 0 ∷ []) (0 ∷ []) (marks (0 ∷ [])) (answered (0 ∷ [])) (holding (fact 0 0 0 1 ∷ fact 0 1 1 1 ∷ []))
     ∷ []
 
--- on any line, with any numbers asked, and with any number for the one more byte
+-- whatever the line and the numbers that are asked of a refused grammar, and whatever the one more byte
 module _ (line : List ℕ) (A i j b : ℕ) where
   -- a refused grammar is refused to every question, and no lent memory changes
   abbrev refusedGrammar : List ℕ → ℕ → ℕ → List Entry
@@ -166,10 +166,11 @@ module _ (line : List ℕ) (A i j b : ℕ) where
   abbrev noBytes : List Entry
   noBytes = refusedGrammar [] 1 0
 
-  -- 10. Grammar `1 0 1 0 0`: accepted, no fact, on the empty line and on the line 0; with one more byte, 5 at 5
+  -- 10. Grammar `1 0 1 0 0`: accepted, no fact on any line; with one more byte, 5 at 5
   abbrev noRules : List Entry
   noRules =
-      outcome (1 ∷ 0 ∷ 1 ∷ 0 ∷ 0 ∷ []) [] chart (answered (0 ∷ 0 ∷ [])) (holding [])
+      noFacts (1 ∷ 0 ∷ 1 ∷ 0 ∷ 0 ∷ [])
+      ∷ outcome (1 ∷ 0 ∷ 1 ∷ 0 ∷ 0 ∷ []) [] chart (answered (0 ∷ 0 ∷ [])) (holding [])
       ∷ outcome (1 ∷ 0 ∷ 1 ∷ 0 ∷ 0 ∷ []) (0 ∷ []) chart (answered (0 ∷ 0 ∷ [])) (holding [])
       ∷ refusedGrammar (1 ∷ 0 ∷ 1 ∷ 0 ∷ 0 ∷ b ∷ []) 5 5
 
