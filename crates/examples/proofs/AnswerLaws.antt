@@ -64,6 +64,7 @@ use Rattle.examples.specs.Entry.{Graded, Question, chart, ends, marks, t
 use Rattle.examples.specs.Memory.{wordAt, overwritten, Lent, wordsAfter, depthsAfter}
 use Rattle.examples.specs.Claim.{OutcomeIs}
 use Rattle.examples.proofs.Test.{same, sameBy, sameTold, passes, workTest, treeTest, answerTest}
+use Rattle.examples.proofs.OnlyLaws.{chart-only, ends-only, marks-only, tree-only, forest-only}
 use Rattle.examples.proofs.TestLaws.{same-is, same-by, node-one, branch-one, told-is, passes-is}
 use Rattle.examples.proofs.WorkLaws.{written-long, written-at, written-past, word-shows, work-filled}
 
@@ -104,7 +105,7 @@ module _ (g line : List ℕ) (read : readOf g ≡ Accepted (sectionsGiven g)) (i
 
   chart-holds : (told : Told) → answerTest g line facts chart told ≡ true → OutcomeIs g line chart told (holding facts)
   unfolding answerTest
-  chart-holds told t = λ words depths lent. (
+  chart-holds told t = λ words depths lent. chart-only (
     chart-answer.Filled (roundsOf G line) (factCount G line),
     sym (told-is told _ t),
     chart-outcome.filled {rounds = roundsOf G line} {facts = factList G line}
@@ -122,7 +123,7 @@ module _ (g line : List ℕ) (read : readOf g ≡ Accepted (sectionsGiven g)) (i
       let p = and-parts (passes (startCheck (sectionsGiven g .categories) (length line) A i)) (sameTold told (answered (row ∷ countBelow 64 row ∷ trailingZeros 64 row ∷ []))) t in
       let question = passes-is (startCheck (sectionsGiven g .categories) (length line) A i) (p .0) in
       let inside = start-passed (sectionsGiven g .categories) (length line) A i question in
-      λ words depths lent. (
+      λ words depths lent. ends-only (
         ends-answer.Row row (countBelow 64 row) (trailingZeros 64 row),
         sym (told-is told _ (p .1)),
         ends-outcome.found {row = row} {count = countBelow 64 row} {smallest = trailingZeros 64 row}
@@ -141,7 +142,7 @@ module _ (g line : List ℕ) (read : readOf g ≡ Accepted (sectionsGiven g)) (i
       let p = and-parts (same new (of-line.marks G line)) (sameTold told (answered (secret ∷ []))) t in
       let is = same-is new (of-line.marks G line) (p .0) in
       let long : length new ≡ length line = rw is (length-listed _ 0 (length line)) in
-      λ words depths row lent room. (
+      λ words depths row lent room. marks-only (
         marks-answer.Marked secret,
         sym (told-is told _ (p .1)),
         marks-answered g line words depths row (sectionsGiven g) (first words depths lent Nothing refl) secret _ _ (overwritten new row) (omega arith) (work words depths lent)
@@ -155,7 +156,7 @@ module _ (g line : List ℕ) (read : readOf g ≡ Accepted (sectionsGiven g)) (i
       let p = and-parts (sameBy nodeBytes nodes (shown G line A i j)) (sameTold told (answered (length nodes ∷ []))) t in
       let chosen = chosen-exists G line proper (depth-exists G line (facts-exact G line proper A i j .0 fact) .1) in
       let is : nodes ≡ preorder (chosen .0) = same-by nodeBytes node-one nodes (shown G line A i j) (p .0) ∙ chosen .3 in
-      λ words depths row lent room. (
+      λ words depths row lent room. tree-only (
         tree-answer.Nodes (length nodes),
         sym (told-is told _ (p .1)),
         tree-outcome.shows
@@ -170,7 +171,7 @@ module _ (g line : List ℕ) (read : readOf g ≡ Accepted (sectionsGiven g)) (i
   tree-holds A i j nodes told question false fact t =
       let p = and-parts (sameBy nodeBytes nodes []) (sameTold told (refused (rowOf TreeOfNoFact))) t in
       let none = same-by nodeBytes node-one nodes [] (p .0) in
-      λ words depths row lent room. (
+      λ words depths row lent room. tree-only (
         tree-answer.Refused TreeOfNoFact,
         sym (told-is told _ (p .1)),
         tree-outcome.noFact
@@ -187,7 +188,7 @@ module _ (g line : List ℕ) (read : readOf g ≡ Accepted (sectionsGiven g)) (i
       let p = and-parts (sameBy derivation.branchNumbers branches (records.forest G line)) (sameTold told (answered (length branches ∷ []))) t in
       let is = same-by derivation.branchNumbers branch-one branches (records.forest G line) (p .0) in
       λ words depths rows lent room.
-      let fits : length (records.forest G line) ≤ length rows = rw is at room in (
+      let fits : length (records.forest G line) ≤ length rows = rw is at room in forest-only (
         forest-answer.Records (length branches),
         sym (told-is told _ (p .1)),
         forest-outcome.answered

@@ -1,7 +1,7 @@
 -- The test of an example, computed: what is told, the work memory, and what is written, against the definitions.
 use Prim.Native.Nat.{ℕ, zero, suc, _+_, _*_, _^_}
 use mathlib.Core.Bool.{Bool, true, false, _&&_, cond}
-use mathlib.Core.List.{List, [], _∷_}
+use mathlib.Core.List.{List, [], _∷_, map, flatten}
 use lib.ListN.{length, getD}
 use lib.Dec.{eqb, ltb}
 use lib.Count.{trailingZeros}
@@ -13,9 +13,9 @@ use Rattle.refusals.specs.Row.{rowOf}
 use Rattle.refusals.specs.Told.{Told, answered, refused}
 use Rattle.positions.specs.Member.{digit}
 use Rattle.positions.specs.Count.{countBelow}
-use Rattle.derivation.specs.Bound.{roundsBound}
+use Rattle.derivation.specs.Bound.{depthBound, roundsBound}
 use Rattle.derivation.specs.Grammar.{Grammar}
-use Rattle.derivation.specs.computed.Table.{Table, entry, isFound, depths}
+use Rattle.derivation.specs.computed.Table.{Table, entry, isFound, depths, depthOf}
 use Rattle.derivation.specs.computed.RoundsOf.{roundsOf}
 use Rattle.derivation.specs.computed.FactCount.{total, factCount}
 use Rattle.derivation.specs.computed.Facts as is-fact
@@ -31,7 +31,9 @@ use Rattle.grammar.specs.declared.reading.Reading.the-variants.{Accepted, Refus
 use Rattle.grammar.specs.Reading.{readOf}
 use Rattle.grammar.specs.Given.{sectionsGiven, grammarGiven}
 use Rattle.tree.specs.Bytes.{nodeBytes}
-use Rattle.examples.specs.Entry.{Graded, Question, chart, ends, marks, tree, forest, Work, asBefore, holding, Entry}
+use Rattle.lines.specs.Lines.{text, lineOf}
+use Rattle.report.proofs.Examples.{documentJob, documentOutput}
+use Rattle.examples.specs.Entry.{Graded, Question, chart, ends, marks, tree, forest, Work, asBefore, holding, Entry, outcome, noFacts, meetsBound, prints}
 use Rattle.examples.specs.Memory.{wordAt, numberAt}
 
 -- every number below n passes
@@ -123,8 +125,25 @@ module _ (g line : List ℕ) where
   readTest question told work (Accepted s) = filledTest question told work
   readTest question told work (Refused refusal) = turnedTest question told work refusal
 
+-- an accepted grammar without rules
+unfoldable pub noFactsTest : List ℕ → Reading → Bool
+noFactsTest g (Accepted s) = eqb (length (grammarGiven g .rules)) 0
+noFactsTest g (Refused refusal) = false
+
+-- a fact's depth, which is not 0, is the computed one and the bound
+unfoldable pub boundTest : List ℕ → List ℕ → Graded → Reading → Bool
+boundTest g line fact (Accepted s) =
+    isFound (fact .depth)
+    && (eqb (depthOf (grammarGiven g) line (fact .category) (fact .start) (fact .end)) (fact .depth)
+    && eqb (fact .depth) (depthBound (grammarGiven g) (fact .start) (fact .end)))
+boundTest g line fact (Refused refusal) = false
+
+-- of what is printed: it is what crate report shows of the document's job
 unfoldable pub test : Entry → Bool
-test e = readTest (e .grammar) (e .line) (e .question) (e .told) (e .work) (readOf (e .grammar))
+test (outcome g line question told work) = readTest g line question told work (readOf g)
+test (noFacts g) = noFactsTest g (readOf g)
+test (meetsBound g line fact) = boundTest g line fact (readOf g)
+test (prints input lines) = same input documentJob && same (flatten (map (λ line. lineOf line []) lines)) (text documentOutput)
 
 -- every entry passes
 unfoldable pub all : List Entry → Bool

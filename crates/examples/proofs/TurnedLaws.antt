@@ -23,6 +23,7 @@ use Rattle.forest.specs.Outcome as forest-outcome
 use Rattle.examples.specs.Entry.{Question, chart, ends, marks, tree, forest, Work, asBefore, holding}
 use Rattle.examples.specs.Claim.{OutcomeIs}
 use Rattle.examples.proofs.Test.{same, sameBy, sameTold, writesNothing, turnedTest}
+use Rattle.examples.proofs.OnlyLaws.{chart-only, ends-only, marks-only, tree-only, forest-only}
 use Rattle.examples.proofs.TestLaws.{same-is, same-by, node-one, branch-one, told-is}
 
 module _ (g line : List ℕ) (refusal : Refusal) (read : readOf g ≡ Refused refusal) where
@@ -30,17 +31,17 @@ module _ (g line : List ℕ) (refusal : Refusal) (read : readOf g ≡ Refused re
   unfolding turnedTest writesNothing bytes
   turned-holds question told (holding facts) ok = absurd (false≢true ok)
   turned-holds chart told asBefore ok = λ words depths lent.
-      (chart-answer.Refused refusal, sym (told-is told _ ok), chart-turned g line words depths refusal (rw read))
+      chart-only (chart-answer.Refused refusal, sym (told-is told _ ok), chart-turned g line words depths refusal (rw read))
   turned-holds (ends A i) told asBefore ok = λ words depths lent.
-      (ends-answer.Refused refusal, sym (told-is told _ ok), ends-turned g line words depths A i refusal (rw read))
+      ends-only (ends-answer.Refused refusal, sym (told-is told _ ok), ends-turned g line words depths A i refusal (rw read))
   turned-holds (marks new) told asBefore ok = λ words depths row lent room.
       let p = and-parts (same new []) (sameTold told (refused (rowOf refusal))) ok in
-      (marks-answer.Refused refusal, sym (told-is told _ (p .1)), rw (same-is new [] (p .0)) (marks-turned g line words depths row refusal (rw read)))
+      marks-only (marks-answer.Refused refusal, sym (told-is told _ (p .1)), rw (same-is new [] (p .0)) (marks-turned g line words depths row refusal (rw read)))
   turned-holds (tree A i j nodes) told asBefore ok = λ words depths row lent room.
       let p = and-parts (sameBy nodeBytes nodes []) (sameTold told (refused (rowOf refusal))) ok in
       let none = same-by nodeBytes node-one nodes [] (p .0) in
-      (tree-answer.Refused refusal, sym (told-is told _ (p .1)), tree-outcome.turnedDown {refusal = refusal} (rw read) refl refl refl (rw none))
+      tree-only (tree-answer.Refused refusal, sym (told-is told _ (p .1)), tree-outcome.turnedDown {refusal = refusal} (rw read) refl refl refl (rw none))
   turned-holds (forest branches) told asBefore ok = λ words depths rows lent room.
       let p = and-parts (sameBy branchNumbers branches []) (sameTold told (refused (rowOf refusal))) ok in
       let none = same-by branchNumbers branch-one branches [] (p .0) in
-      (forest-answer.Refused refusal, sym (told-is told _ (p .1)), forest-outcome.turnedDown {refusal = refusal} (rw read) refl refl refl (rw none))
+      forest-only (forest-answer.Refused refusal, sym (told-is told _ (p .1)), forest-outcome.turnedDown {refusal = refusal} (rw read) refl refl refl (rw none))

@@ -1,5 +1,6 @@
--- An example: grammar bytes, line and question, and the whole outcome.
+-- An example: what is given, and the whole outcome.
 use Prim.Native.Nat.{ℕ}
+use Prim.Native.String.{String}
 use mathlib.Core.List.{List}
 use Rattle.refusals.specs.Told.{Told, refused}
 use Rattle.derivation.specs.Node.{NodeValue}
@@ -29,13 +30,15 @@ pub data Work : Type 0 where
   -- the chart and the depths of these facts
   holding : List Graded → Work
 
-pub record Entry : Type 0 where
-  pub grammar : List ℕ
-  pub line : List ℕ
-  pub question : Question
-  -- the values answered, or the number and place of the refusal
-  pub told : Told
-  pub work : Work
+pub data Entry : Type 0 where
+  -- grammar bytes, line and question; the values answered, or the number and place of the refusal; and the work memory afterwards
+  outcome : List ℕ → List ℕ → Question → Told → Work → Entry
+  -- grammar bytes that are accepted and have no fact on any line
+  noFacts : List ℕ → Entry
+  -- grammar bytes, line, and a fact with its depth, which meets the bound N×(j-i+1)
+  meetsBound : List ℕ → List ℕ → Graded → Entry
+  -- the program's input, and the lines that it prints, each ended by byte 10
+  prints : List ℕ → List String → Entry
 
 -- as they are printed: fact A i j depth, node kind number start end, and the record p d i m j
 abbrev pub fact : ℕ → ℕ → ℕ → ℕ → Graded

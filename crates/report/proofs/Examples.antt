@@ -26,13 +26,13 @@ use Rattle.tree.specs.Bytes.{bytes}
 use Rattle.report.specs.Printed.{lentWords, lentDepths, lentTree, refusedLine, roundsLine, factLine, factLines, marksLine, nodeLine, treeLines, answerPieces, chartPieces, pieces, printed}
 
 -- the document's job: 15 grammar bytes, 6 tokens, 1 question
-abbrev documentJob : List ℕ
+abbrev pub documentJob : List ℕ
 documentJob =
     15 ∷ 0 ∷ 3 ∷ 0 ∷ 0 ∷ 0 ∷ 1 ∷ 1 ∷ 2 ∷ 0 ∷ 3 ∷ 128 ∷ 1 ∷ 0 ∷ 0 ∷ 1 ∷ 0
     ∷ 6 ∷ 2 ∷ 0 ∷ 1 ∷ 0 ∷ 1 ∷ 0
     ∷ 1 ∷ 0 ∷ 1 ∷ 6 ∷ []
 
-abbrev documentOutput : String
+abbrev pub documentOutput : String
 documentOutput =
     "rounds 3 facts 6\nfact 0 1 2 1\nfact 0 1 4 2\nfact 0 1 6 3\nfact 0 3 4 1\nfact 0 3 6 2\nfact 0 5 6 1\nmarks 011111\ntree 0 1 6\nnode 1 0 1 6\nnode 1 0 1 4\nnode 1 1 1 2\nnode 0 0 1 2\nnode 0 1 2 3\nnode 0 0 3 4\nnode 0 1 4 5\nnode 0 0 5 6\n"
 
