@@ -11,7 +11,7 @@ use Rattle.refusals.specs.Told.{refused}
 use Rattle.derivation.specs.Grammar.{Rule, Grammar, rule}
 use Rattle.grammar.specs.Reading.{readOf}
 use Rattle.grammar.specs.Told.{readingTold}
-use Rattle.grammar.specs.Limits.{SymbolWithin, RuleWithin, WithinLimits}
+use Rattle.grammar.specs.Limits.{RuleWithin, WithinLimits}
 use Rattle.grammar.specs.Encoding.{encodeRule, encode}
 use Rattle.grammar.specs.Beginning.{
   NextByte,

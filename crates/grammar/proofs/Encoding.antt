@@ -22,7 +22,7 @@ use Rattle.grammar.specs.Value.{standing, after, rulesAt, grammarOf}
 use Rattle.grammar.specs.Limits.{FlagsWithin, SymbolWithin, RuleWithin, WithinLimits}
 use Rattle.grammar.specs.Encoding.{encodeRule, encodeRules, encode}
 use Rattle.grammar.specs.Beginning.{FlagsSoFar, bytesSoFar}
-use Rattle.grammar.proofs.ReadingLaws.{each-none, each-past, rules-none, rules-more, sections-whole, read-whole}
+use Rattle.grammar.proofs.ReadingLaws.{each-none, each-past, rules-none, rules-step, sections-whole, read-whole}
 use Rattle.grammar.proofs.Accepted.{accepted}
 use Rattle.grammar.proofs.Encoded.{class-count, category-count, rule-count, accepted-encodes}
 
@@ -126,7 +126,7 @@ module _ (g rest : List ℕ) (r : Rule) (at : ℕ) (e : drop at g ≡ encodeRule
       (bytes-passed (isSymbol (length (G .classes)) (length (G .categories))) _ g (r .right) rest (at + 2) right-next (omega arith)
       (λ d k. symbol-passed G (getD (r .right) d 0) (w .symbols d k)))
 
--- rules that stand at a position are passed over, and those still to come
+-- rules that stand at a position are passed over, and then come the others of P
 rules-past :
     (G : Grammar) (g : List ℕ) (rs : List Rule) (rest : List ℕ) (P at : ℕ) → drop at g ≡ encodeRules rs ++ rest → ((p : ℕ) → p < length rs → RuleWithin G (getD rs p (rule 0 []))) → length rs ≤ P →
     rulesFrom g (length (G .classes)) (length (G .categories)) P at ≡ rulesFrom g (length (G .classes)) (length (G .categories)) (P - length rs) (at + length (encodeRules rs))
@@ -136,40 +136,40 @@ rules-past G g [] rest P at e each l =
     let m : P - 0 ≡ P = omega arith in
     rw (z, m)
 rules-past G g (r ∷ rs) rest P at e each l =
-    let t = length (G .classes) in
-    let n = length (G .categories) in
-    let f : drop at g ≡ encodeRule r ++ (encodeRules rs ++ rest) = e ∙ append-assoc (encodeRule r) (encodeRules rs) rest in
-    let m : P - 0 ≡ P = omega arith in
-    let q : P - (0 + 1) - length rs ≡ P - suc (length rs) = omega arith in
-    let p : after g at + length (encodeRules rs) ≡ at + length (encodeRule r ++ encodeRules rs) = omega (arith, length-append (encodeRule r) (encodeRules rs), length-is g (encodeRules rs ++ rest) r at f) in
-    rw m at (rules-more g t n P 0 at (after g at) (omega arith) (rule-passed g (encodeRules rs ++ rest) r at f G (each 0 (omega arith))))
-    ∙ rw (q, p) at (rules-past G g rs rest (P - (0 + 1)) (after g at) (rule-after g (encodeRules rs ++ rest) r at f) (λ i j. each (suc i) (omega arith)) (omega arith))
+    let more = encodeRules rs ++ rest in
+    let f : drop at g ≡ encodeRule r ++ more = e ∙ append-assoc (encodeRule r) (encodeRules rs) rest in
+    let m : P - suc (length rs) ≡ P - 1 - length rs = omega arith in
+    let p : at + length (encodeRule r ++ encodeRules rs) ≡ after g at + length (encodeRules rs) = omega (arith, length-append (encodeRule r) (encodeRules rs), length-is g more r at f) in
+    rules-step g (length (G .classes)) (length (G .categories)) P at (omega arith)
+    ∙ rw (rule-passed g more r at f G (each 0 (omega arith)), m, p)
+    (rules-past G g rs rest (P - 1) (after g at) (rule-after g more r at f) (λ i j. each (suc i) (omega arith)) (omega arith))
 
 rules-are : (g : List ℕ) (rs : List Rule) (rest : List ℕ) (at : ℕ) → drop at g ≡ encodeRules rs ++ rest → rulesAt g (length rs) at ≡ rs
 unfolding rulesAt encodeRules
 rules-are g [] rest at e = refl
 rules-are g (r ∷ rs) rest at e =
-    let f : drop at g ≡ encodeRule r ++ (encodeRules rs ++ rest) = e ∙ append-assoc (encodeRule r) (encodeRules rs) rest in
-    rw (rule-is g (encodeRules rs ++ rest) r at f, rules-are g rs rest (after g at) (rule-after g (encodeRules rs ++ rest) r at f))
+    let more = encodeRules rs ++ rest in
+    let f : drop at g ≡ encodeRule r ++ more = e ∙ append-assoc (encodeRule r) (encodeRules rs) rest in
+    rw (rule-is g more r at f, rules-are g rs rest (after g at) (rule-after g more r at f))
 
 -- bytes that begin with all classes
-module _ (g f rest : List ℕ) (e : g ≡ (length f ∷ f) ++ rest) (v : FlagsSoFar 128 (length f) f) where
-  pub classes-to : flagsSection g 128 0 ≡ To (1 + length f)
-  classes-to = flags-section-passed g f rest 0 e v
-
+module _ (g f rest : List ℕ) (e : g ≡ (length f ∷ f) ++ rest) where
   pub classes-next : drop (1 + length f) g ≡ rest
   classes-next = flags-after g f rest 0 e
 
--- and with all categories
-module _ (g f h rest : List ℕ) (e : g ≡ (length f ∷ f) ++ ((length h ∷ h) ++ rest)) (v : FlagsSoFar 128 (length f) f) (w : FlagsSoFar 32 (length h) h) where
-  pub categories-to : flagsSection g 32 (1 + length f) ≡ To (1 + length f + 1 + length h)
-  categories-to = flags-section-passed g h rest (1 + length f) (classes-next g f _ e v) w
+  pub classes-to : FlagsSoFar 128 (length f) f → flagsSection g 128 0 ≡ To (1 + length f)
+  classes-to = flags-section-passed g f rest 0 e
 
+-- bytes that begin with all classes and categories
+module _ (g f h rest : List ℕ) (e : g ≡ (length f ∷ f) ++ ((length h ∷ h) ++ rest)) where
   pub categories-next : drop (1 + length f + 1 + length h) g ≡ rest
-  categories-next = flags-after g h rest (1 + length f) (classes-next g f _ e v)
+  categories-next = flags-after g h rest (1 + length f) (classes-next g f _ e)
+
+  pub categories-to : FlagsSoFar 32 (length h) h → flagsSection g 32 (1 + length f) ≡ To (1 + length f + 1 + length h)
+  categories-to = flags-section-passed g h rest (1 + length f) (classes-next g f _ e)
 
   pub counts-are : (byte g 0 ≡ length f) × (byte g (1 + length f) ≡ length h)
-  counts-are = (count-is g f _ 0 e, count-is g h rest (1 + length f) (classes-next g f _ e v))
+  counts-are = (count-is g f _ 0 e, count-is g h rest (1 + length f) (classes-next g f _ e))
 
 pub classes-within : {G : Grammar} → WithinLimits G → FlagsSoFar 128 (length (G .classes)) (G .classes)
 classes-within w = record { low = w .some-class; high = w .classes; within = w .class-flags }
@@ -181,13 +181,13 @@ categories-within w = record { low = w .some-category; high = w .categories; wit
 abbrev ruleCountAt : Grammar → ℕ
 ruleCountAt G = 1 + length (G .classes) + 1 + length (G .categories)
 
--- and with the rules of G, where P are to stand
-module _ (G : Grammar) (P : ℕ) (within : WithinLimits G) (g rest : List ℕ) (e : g ≡ bytesSoFar G P ++ rest) where
+-- bytes that begin with all classes and categories, P, and the rules of G
+module _ (G : Grammar) (P : ℕ) (g rest : List ℕ) (e : g ≡ bytesSoFar G P ++ rest) where
   pub sections-are : g ≡ (length (G .classes) ∷ G .classes) ++ ((length (G .categories) ∷ G .categories) ++ (P ∷ (encodeRules (G .rules) ++ rest)))
   sections-are = e ∙ simp append-assoc
 
   rules-section-next : drop (ruleCountAt G) g ≡ P ∷ (encodeRules (G .rules) ++ rest)
-  rules-section-next = categories-next g (G .classes) (G .categories) _ sections-are (classes-within within) (categories-within within)
+  rules-section-next = categories-next g (G .classes) (G .categories) _ sections-are
 
   rule-count-is : byte g (ruleCountAt G) ≡ P
   rule-count-is = byte-is g (encodeRules (G .rules) ++ rest) P (ruleCountAt G) rules-section-next
@@ -200,10 +200,10 @@ module _ (G : Grammar) (P : ℕ) (within : WithinLimits G) (g rest : List ℕ) (
       omega (arith, length-append (G .classes) ((length (G .categories) ∷ G .categories) ++ (P ∷ encodeRules (G .rules))), length-append (G .categories) (P ∷ encodeRules (G .rules)))
 
   pub rules-section-past :
-      length (G .rules) ≤ P → P ≤ 128 →
+      WithinLimits G → length (G .rules) ≤ P → P ≤ 128 →
       rulesSection g (length (G .classes)) (length (G .categories)) (ruleCountAt G) ≡ rulesFrom g (length (G .classes)) (length (G .categories)) (P - length (G .rules)) (length (bytesSoFar G P))
   unfolding rulesSection
-  rules-section-past fits high =
+  rules-section-past within fits high =
       let inside : ruleCountAt G < length g = byte-inside g (encodeRules (G .rules) ++ rest) P (ruleCountAt G) rules-section-next in
       rw (lt-ltb (ruleCountAt G) (length g) inside, rule-count-is, le-leb P 128 high)
       (rw rules-end at (rules-past G g (G .rules) rest P (ruleCountAt G + 1) rules-next (within .each) fits))
@@ -213,35 +213,36 @@ abbrev sectionsEncoded : Grammar → List ℕ → Sections
 sectionsEncoded G g = sectionsAt g (1 + length (G .classes)) (ruleCountAt G) (length (encode G))
 
 -- bytes that begin with an encoding: its sections are read, and stand for the grammar
-module _ (G : Grammar) (within : WithinLimits G) (g rest : List ℕ) (e : g ≡ encode G ++ rest) where
-  pub encoding-sections : sectionsOf g ≡ Accepted (sectionsEncoded G g)
+module _ (G : Grammar) (g rest : List ℕ) (e : g ≡ encode G ++ rest) where
+  pub encoding-sections : WithinLimits G → sectionsOf g ≡ Accepted (sectionsEncoded G g)
   unfolding encode
-  encoding-sections =
+  encoding-sections within =
       let P = length (G .rules) in
-      let parts = sections-are G P within g rest e in
-      let v = classes-within within in
-      let w = categories-within within in
-      let c = counts-are g (G .classes) (G .categories) _ parts v w in
-      let rules = rules-section-past G P within g rest e (omega arith) (within .rules) ∙ rules-none g (length (G .classes)) (length (G .categories)) P P (length (bytesSoFar G P)) (omega arith) in
-      sections-whole g (1 + length (G .classes)) (classes-to g (G .classes) _ parts v) (ruleCountAt G) (categories-to g (G .classes) (G .categories) _ parts v w) (length (bytesSoFar G P)) (rw (c .0, c .1) rules)
+      let parts = sections-are G P g rest e in
+      let c = counts-are g (G .classes) (G .categories) _ parts in
+      let rules = rules-section-past G P g rest e within (omega arith) (within .rules) ∙ rules-none g (length (G .classes)) (length (G .categories)) P P (length (bytesSoFar G P)) (omega arith) in
+      sections-whole g
+      (1 + length (G .classes)) (classes-to g (G .classes) _ parts (classes-within within))
+      (ruleCountAt G) (categories-to g (G .classes) (G .categories) _ parts (categories-within within))
+      (length (bytesSoFar G P)) (rw (c .0, c .1) rules)
 
   encoding-value : grammarOf g (sectionsEncoded G g) ≡ G
   unfolding encode grammarOf
   encoding-value =
       let P = length (G .rules) in
-      let parts = sections-are G P within g rest e in
+      let parts = sections-are G P g rest e in
       rw (
         flags-are g (G .classes) _ 0 parts,
-        flags-are g (G .categories) _ (1 + length (G .classes)) (classes-next g (G .classes) _ parts (classes-within within)),
-        rule-count-is G P within g rest e,
-        rules-are g (G .rules) rest (ruleCountAt G + 1) (rules-next G P within g rest e),
+        flags-are g (G .categories) _ (1 + length (G .classes)) (classes-next g (G .classes) _ parts),
+        rule-count-is G P g rest e,
+        rules-are g (G .rules) rest (ruleCountAt G + 1) (rules-next G P g rest e),
       )
 
 encoding-read : (G : Grammar) → WithinLimits G → (b : List ℕ) → b ≡ encode G → (s : Sections) × (readOf b ≡ Accepted s) × (grammarOf b s ≡ G)
 encoding-read G within b encoded =
     let e : b ≡ encode G ++ [] = encoded ∙ sym (append-nil (encode G)) in
     let s = sectionsEncoded G b in
-    (s, read-whole b s (encoding-sections G within b [] e) (omega (arith, ap length encoded)), encoding-value G within b [] e)
+    (s, read-whole b s (encoding-sections G b [] e within) (omega (arith, ap length encoded)), encoding-value G b [] e)
 
 -- the encoding of a grammar within the limits is accepted, and that grammar is read
 pub encoding-accepted : (G : Grammar) → WithinLimits G → (s : Sections) × (readOf (encode G) ≡ Accepted s) × (grammarOf (encode G) s ≡ G)

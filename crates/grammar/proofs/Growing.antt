@@ -33,7 +33,7 @@ use Rattle.grammar.specs.Beginning.{
 }
 
 -- what holds of each element holds with one more
-pub each-snoc {ℓ} : {A : Type ℓ} (P : A → Type 0) (d : A) (x : List A) (y : A) → ((i : ℕ) → i < length x → P (getD x i d)) → P y → (i : ℕ) → i < length (x ++ (y ∷ [])) → P (getD (x ++ (y ∷ [])) i d)
+each-snoc {ℓ} : {A : Type ℓ} (P : A → Type 0) (d : A) (x : List A) (y : A) → ((i : ℕ) → i < length x → P (getD x i d)) → P y → (i : ℕ) → i < length (x ++ (y ∷ [])) → P (getD (x ++ (y ∷ [])) i d)
 each-snoc P d x y good last i l = go (decLt i (length x))
   where
     go : Dec (i < length x) → P (getD (x ++ (y ∷ [])) i d)
@@ -158,7 +158,7 @@ pub no-flags : {most many : ℕ} → 1 ≤ many → many ≤ most → FlagsSoFar
 no-flags l h = record { low = l; high = h; within = λ i l. absurd (omega arith) }
 
 -- a beginning and a byte that is right
-pub grow : {b : List ℕ} {next : NextByte} (y : ℕ) → Beginning b next → RightByte next y → (next′ : NextByte) × Beginning (b ++ (y ∷ [])) next′
+grow : {b : List ℕ} {next : NextByte} (y : ℕ) → Beginning b next → RightByte next y → (next′ : NextByte) × Beginning (b ++ (y ∷ [])) next′
 grow y noByte (low, high) = classes-stand (no-flags low high) (omega arith)
 grow y (someClasses {T} {f} w l) h = classes-stand (flags-snoc w h) (omega (arith, length-snoc f y))
 grow y (allClasses {f} w) h = categories-stand w (no-flags (h .0) (h .1)) (omega arith)
@@ -170,7 +170,7 @@ grow y (someSymbols {G} {P} {A} {k} {s} u w l m) h =
     rw (append-assoc (bytesSoFar G P) (A ∷ (k ∷ s)) (y ∷ [])) (symbols-stand u (symbol-snoc w (omega arith) h) (omega (arith, length-snoc s y)) m)
 grow y (wholeGrammar w) h = absurd h
 
-pub right-byte? : (next : NextByte) (y : ℕ) → Dec (RightByte next y)
+right-byte? : (next : NextByte) (y : ℕ) → Dec (RightByte next y)
 right-byte? (countBetween low high) y = both (decLe low y) (decLe y high)
   where
     both : Dec (low ≤ y) → Dec (y ≤ high) → Dec ((low ≤ y) × (y ≤ high))

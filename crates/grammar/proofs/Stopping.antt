@@ -181,9 +181,9 @@ categories-stopped :
     (g f h rest : List ℕ) → g ≡ (length f ∷ f) ++ ((length h ∷ h) ++ rest) → FlagsSoFar 128 (length f) f → FlagsSoFar 32 (length h) h → (refusal : Refusal) →
     rulesSection g (length f) (length h) (1 + length f + 1 + length h) ≡ Stop refusal → readOf g ≡ Refused refusal
 categories-stopped g f h rest e v w refusal s =
-    let c = counts-are g f h rest e v w in
+    let c = counts-are g f h rest e in
     read-refused g refusal
-    (sections-third g (1 + length f) (classes-to g f _ e v) (1 + length f + 1 + length h) (categories-to g f h rest e v w) refusal (rw (c .0, c .1) s))
+    (sections-third g (1 + length f) (classes-to g f _ e v) (1 + length f + 1 + length h) (categories-to g f h rest e w) refusal (rw (c .0, c .1) s))
 
 -- and in a rule, after those of G
 rule-stopped :
@@ -191,8 +191,8 @@ rule-stopped :
     ruleFrom g (length (G .classes)) (length (G .categories)) (length (bytesSoFar G P)) ≡ Stop refusal → readOf g ≡ Refused refusal
 rule-stopped {G} {P} u g rest e refusal s =
     let w = u .within in
-    categories-stopped g (G .classes) (G .categories) _ (sections-are G P w g rest e) (classes-within w) (categories-within w) refusal
-    (rules-section-past G P w g rest e (omega arith) (u .high) ∙ rules-stop g (length (G .classes)) (length (G .categories)) P (length (G .rules)) (length (bytesSoFar G P)) refusal (u .fewer) s)
+    categories-stopped g (G .classes) (G .categories) _ (sections-are G P g rest e) (classes-within w) (categories-within w) refusal
+    (rules-section-past G P g rest e w (omega arith) (u .high) ∙ rules-stop g (length (G .classes)) (length (G .categories)) P (length (G .rules)) (length (bytesSoFar G P)) refusal (u .fewer) s)
 
 -- what stands after a beginning
 module _ (g b rest : List ℕ) (e : g ≡ b ++ rest) where
@@ -217,12 +217,12 @@ fault-refused (allClasses {f} v) rest bad =
     let g = (length f ∷ f) ++ rest in
     let at = 1 + length f in
     placed g rest (countBetween 1 32) at (omega arith)
-    (classes-stopped g f rest refl v _ (count-stopped g 32 at rest (classes-next g f rest refl v) (omega (arith, length-append f rest)) bad))
+    (classes-stopped g f rest refl v _ (count-stopped g 32 at rest (classes-next g f rest refl) (omega (arith, length-append f rest)) bad))
 fault-refused (someCategories {N} {f} {h} v w l) rest bad =
     let g = ((length f ∷ f) ++ (N ∷ h)) ++ rest in
     let e : g ≡ (length f ∷ f) ++ ((N ∷ h) ++ rest) = append-assoc (length f ∷ f) (N ∷ h) rest in
     placed g rest flagByte (1 + length f + 1 + length h) (omega (arith, length-append f (N ∷ h)))
-    (classes-stopped g f ((N ∷ h) ++ rest) e v _ (flag-stopped g 32 (1 + length f) h rest N (classes-next g f _ e v) w l bad))
+    (classes-stopped g f ((N ∷ h) ++ rest) e v _ (flag-stopped g 32 (1 + length f) h rest N (classes-next g f _ e) w l bad))
 fault-refused (allCategories {f} {h} v w) rest bad =
     let b = (length f ∷ f) ++ (length h ∷ h) in
     let e : b ++ rest ≡ (length f ∷ f) ++ ((length h ∷ h) ++ rest) = append-assoc (length f ∷ f) (length h ∷ h) rest in
@@ -230,7 +230,7 @@ fault-refused (allCategories {f} {h} v w) rest bad =
     let p : at ≡ length b = omega (arith, length-append f (length h ∷ h)) in
     placed (b ++ rest) rest (countBetween 0 128) at p
     (categories-stopped (b ++ rest) f h rest e v w _
-    (rule-count-stopped (b ++ rest) (length f) (length h) at rest (categories-next (b ++ rest) f h rest e v w) (omega (arith, length-append b rest)) bad))
+    (rule-count-stopped (b ++ rest) (length f) (length h) at rest (categories-next (b ++ rest) f h rest e) (omega (arith, length-append b rest)) bad))
 fault-refused (someRules {G} {P} u) rest bad =
     let b = bytesSoFar G P in
     rule-stopped u (b ++ rest) rest refl _ (left-stopped G (b ++ rest) (length b) rest (beginning-after (b ++ rest) b rest refl) (beginning-inside (b ++ rest) b rest refl) bad)
@@ -250,4 +250,4 @@ fault-refused (someSymbols {G} {P} {A} {k} {s} u w l m) rest bad =
 fault-refused (wholeGrammar {G} w) x (missing more) = absurd (more refl)
 fault-refused (wholeGrammar {G} w) x (other y wrong rest) =
     let g = encode G ++ (y ∷ rest) in
-    read-more g _ (encoding-sections G w g (y ∷ rest) refl) (omega (arith, length-append (encode G) (y ∷ rest)))
+    read-more g _ (encoding-sections G g (y ∷ rest) refl w) (omega (arith, length-append (encode G) (y ∷ rest)))
