@@ -58,15 +58,15 @@ classes-stand : {T : ℕ} {f : List ℕ} → FlagsSoFar 128 T f → length f ≤
 classes-stand {T} {f} w h = go (decLt (length f) T)
   where
     go : Dec (length f < T) → Begun (T ∷ f)
-    go (yes l) = (flagByte, someClasses w l)
-    go (no l) = let e : T ≡ length f = omega arith in rw e (countBetween 1 32, allClasses (rw e at w))
+    go (yes l) = (_, someClasses w l)
+    go (no l) = let e : T ≡ length f = omega arith in rw e (_, allClasses (rw e at w))
 
 categories-stand : {N : ℕ} {f h : List ℕ} → FlagsSoFar 128 (length f) f → FlagsSoFar 32 N h → length h ≤ N → Begun ((length f ∷ f) ++ (N ∷ h))
 categories-stand {N} {f} {h} v w l = go (decLt (length h) N)
   where
     go : Dec (length h < N) → Begun ((length f ∷ f) ++ (N ∷ h))
-    go (yes k) = (flagByte, someCategories v w k)
-    go (no k) = let e : N ≡ length h = omega arith in rw e (countBetween 0 128, allCategories v (rw e at w))
+    go (yes k) = (_, someCategories v w k)
+    go (no k) = let e : N ≡ length h = omega arith in rw e (_, allCategories v (rw e at w))
 
 -- all rules stand, or fewer
 rules-stand : {G : Grammar} {P : ℕ} → WithinLimits G → length (G .rules) ≤ P → P ≤ 128 → Begun (bytesSoFar G P)
@@ -74,8 +74,8 @@ unfolding encode
 rules-stand {G} {P} w l h = go (decLt (length (G .rules)) P)
   where
     go : Dec (length (G .rules) < P) → Begun (bytesSoFar G P)
-    go (yes k) = (leftOf G, someRules (record { within = w; fewer = k; high = h }))
-    go (no k) = let e : P ≡ length (G .rules) = omega arith in rw e (noMore, wholeGrammar w)
+    go (yes k) = (_, someRules (record { within = w; fewer = k; high = h }))
+    go (no k) = let e : P ≡ length (G .rules) = omega arith in rw e (_, wholeGrammar w)
 
 -- one more rule
 unfoldable pub withRule : Grammar → Rule → Grammar
@@ -130,7 +130,7 @@ symbols-stand : {G : Grammar} {P A k : ℕ} {s : List ℕ} → RulesSoFar G P �
 symbols-stand {G} {P} {A} {k} {s} u w l h = go (decLt (length s) k)
   where
     go : Dec (length s < k) → Begun (bytesSoFar G P ++ (A ∷ (k ∷ s)))
-    go (yes m) = (symbolOf G, someSymbols u w m h)
+    go (yes m) = (_, someSymbols u w m h)
     go (no m) = let e : k ≡ length s = omega arith in rw e (rule-stands u w)
 
 -- a grammar of no rules
@@ -164,7 +164,7 @@ grow y (someClasses {T} {f} w l) h = classes-stand (flags-snoc w h) (omega (arit
 grow y (allClasses {f} w) h = categories-stand w (no-flags (h .0) (h .1)) (omega arith)
 grow y (someCategories {N} {f} {h} v w l) r = rw (append-assoc (length f ∷ f) (N ∷ h) (y ∷ [])) (categories-stand v (flags-snoc w r) (omega (arith, length-snoc h y)))
 grow y (allCategories {f} {h} v w) r = rw (ruleless-bytes f h y) at (rules-stand (ruleless-within v w) (omega arith) (r .1))
-grow y (someRules {G} {P} u) h = (countBetween 0 8, leftCategory u h)
+grow y (someRules {G} {P} u) h = (_, leftCategory u h)
 grow y (leftCategory {G} {P} {A} u l) h = rw (append-assoc (bytesSoFar G P) (A ∷ []) (y ∷ [])) (symbols-stand u (empty-within l) (omega arith) (h .1))
 grow y (someSymbols {G} {P} {A} {k} {s} u w l m) h =
     rw (append-assoc (bytesSoFar G P) (A ∷ (k ∷ s)) (y ∷ [])) (symbols-stand u (symbol-snoc w (omega arith) h) (omega (arith, length-snoc s y)) m)
