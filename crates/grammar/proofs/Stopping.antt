@@ -172,11 +172,11 @@ module _ (G : Grammar) (g : List ℕ) (at : ℕ) where
       (each-stopped (isSymbol (length (G .classes)) (length (G .categories))) _ g (symbolOf G) (symbol-within G _ _ refl refl) (λ a. refl) s rest k (at + 2)
       (rw two (byte-after g (s ++ rest) k (at + 1) next)) (omega arith) (λ i j. symbol-passed G (getD s i 0) (w .symbols i j)) l bad)
 
--- the reading stops after all classes
+-- where the section of categories stops, the reading does
 classes-stopped : (g f rest : List ℕ) → g ≡ (length f ∷ f) ++ rest → FlagsSoFar 128 (length f) f → (refusal : Refusal) → flagsSection g 32 (1 + length f) ≡ Stop refusal → readOf g ≡ Refused refusal
 classes-stopped g f rest e v refusal s = read-refused g refusal (sections-second g (1 + length f) (classes-to g f rest e v) refusal s)
 
--- and after all categories
+-- where the section of rules stops, the reading does
 categories-stopped :
     (g f h rest : List ℕ) → g ≡ (length f ∷ f) ++ ((length h ∷ h) ++ rest) → FlagsSoFar 128 (length f) f → FlagsSoFar 32 (length h) h → (refusal : Refusal) →
     rulesSection g (length f) (length h) (1 + length f + 1 + length h) ≡ Stop refusal → readOf g ≡ Refused refusal
@@ -185,7 +185,7 @@ categories-stopped g f h rest e v w refusal s =
     read-refused g refusal
     (sections-third g (1 + length f) (classes-to g f _ e v) (1 + length f + 1 + length h) (categories-to g f h rest e w) refusal (rw (c .0, c .1) s))
 
--- and in a rule, after those of G
+-- where a rule stops that comes after those of G, the reading does
 rule-stopped :
     {G : Grammar} {P : ℕ} → RulesSoFar G P → (g rest : List ℕ) → g ≡ bytesSoFar G P ++ rest → (refusal : Refusal) →
     ruleFrom g (length (G .classes)) (length (G .categories)) (length (bytesSoFar G P)) ≡ Stop refusal → readOf g ≡ Refused refusal

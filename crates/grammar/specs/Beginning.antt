@@ -9,7 +9,7 @@ use Rattle.derivation.specs.Grammar.{Grammar, rule}
 use Rattle.grammar.specs.Limits.{FlagsWithin, SymbolWithin, RuleWithin, WithinLimits}
 use Rattle.grammar.specs.Encoding.{encodeRules, encode}
 
--- what the next byte must be: a count or length within limits, a flag, a left category or a symbol of a grammar; or there is to be none
+-- what the next byte must be: a count within its limits, a flag, a left category or a symbol of a grammar; or none may come
 pub data NextByte : Type 0 where
   countBetween : (low high : ℕ) → NextByte
   flagByte : NextByte
@@ -32,7 +32,7 @@ numberOf (leftOf G) = 4
 numberOf (symbolOf G) = 4
 numberOf noMore = 5
 
--- flags so far: `many` are to stand, 1 to `most`, and each that stands is 0 or 1
+-- flags so far: as many as `many` are to stand, 1 to `most`, and each that stands is 0 or 1
 pub record FlagsSoFar (most many : ℕ) (flags : List ℕ) : Type 0 where
   pub low : 1 ≤ many
   pub high : many ≤ most
@@ -53,44 +53,45 @@ bytesSoFar G P =
 
 -- bytes that are right so far, and what the next one must be
 pub data Beginning : List ℕ → NextByte → Type 0 where
-  -- nothing stands: T is next
+  -- no byte: T is next
   noByte : Beginning [] (countBetween 1 128)
-  -- T and fewer flags
+  -- T and fewer flags: a flag is next
   someClasses : {T : ℕ} {f : List ℕ} → FlagsSoFar 128 T f → length f < T → Beginning (T ∷ f) flagByte
-  -- all classes: N is next
+  -- T and all its flags: N is next
   allClasses : {f : List ℕ} → FlagsSoFar 128 (length f) f → Beginning (length f ∷ f) (countBetween 1 32)
-  -- all classes, N and fewer flags
+  -- then N and fewer flags: a flag is next
   someCategories : {N : ℕ} {f h : List ℕ} →
       FlagsSoFar 128 (length f) f → FlagsSoFar 32 N h → length h < N →
       Beginning ((length f ∷ f) ++ (N ∷ h)) flagByte
-  -- all classes and categories: P is next
+  -- then N and all its flags: P is next
   allCategories : {f h : List ℕ} →
       FlagsSoFar 128 (length f) f → FlagsSoFar 32 (length h) h →
       Beginning ((length f ∷ f) ++ (length h ∷ h)) (countBetween 0 128)
-  -- whole rules, fewer than P
+  -- then P and fewer rules: a left category is next
   someRules : {G : Grammar} {P : ℕ} → RulesSoFar G P → Beginning (bytesSoFar G P) (leftOf G)
   -- then a left category: k is next
   leftCategory : {G : Grammar} {P A : ℕ} →
       RulesSoFar G P → A < length (G .categories) →
       Beginning (bytesSoFar G P ++ (A ∷ [])) (countBetween 0 8)
-  -- then a left category, k and fewer symbols
+  -- then a left category, k and fewer symbols: a symbol is next
   someSymbols : {G : Grammar} {P A k : ℕ} {s : List ℕ} →
       RulesSoFar G P → RuleWithin G (rule A s) → length s < k → k ≤ 8 →
       Beginning (bytesSoFar G P ++ (A ∷ (k ∷ s))) (symbolOf G)
+  -- the bytes of a whole grammar: none may come
   wholeGrammar : {G : Grammar} → WithinLimits G → Beginning (encode G) noMore
 
--- the number and place that refuse bytes
+-- the number and place that refuse the bytes
 pub data Refusing : List ℕ → Row → Type 0 where
-  -- they are right so far, and one more is wanted
+  -- all are right, and one more is wanted
   endsEarly : {b : List ℕ} {next : NextByte} →
       Beginning b next → next ≢ noMore →
       Refusing b (record { number = 1; place = length b })
-  -- the first byte that is not right stands after b
+  -- b is right, and the next byte is not
   notRight : {b : List ℕ} {next : NextByte} →
       Beginning b next → (y : ℕ) → ¬ RightByte next y → (rest : List ℕ) →
       Refusing (b ++ (y ∷ rest)) (record { number = numberOf next; place = length b })
 
--- by `encode` alone: the encoding of some grammar within the limits begins with these bytes
+-- the beginnings by `encode` alone: the encoding of a grammar within the limits begins so
 pub record EncodingBegins (b : List ℕ) : Type 0 where
   pub rest : List ℕ
   pub grammar : Grammar
