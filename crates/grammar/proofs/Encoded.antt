@@ -58,7 +58,7 @@ module _ (g : List ℕ) where
 
 -- what passed the tests of t classes and n categories is within the limits of a grammar that has as many
 module _ (G : Grammar) (t n : ℕ) (classes : length (G .classes) ≡ t) (categories : length (G .categories) ≡ n) where
-  symbol-within : (b : ℕ) → isSymbol t n b ≡ true → SymbolWithin G b
+  pub symbol-within : (b : ℕ) → isSymbol t n b ≡ true → SymbolWithin G b
   symbol-within b e = record {
     class = λ l. rw classes (ltb-true b t (rw (lt-ltb b 128 l) at e));
     category = λ l. rw categories (ltb-true (b - 128) n (rw (le-ltb b 128 l) at e));

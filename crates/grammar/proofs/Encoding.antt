@@ -3,8 +3,7 @@ use Prim.Native.Nat.{ℕ, zero, suc, _+_, _-_, _≤_, _<_}
 use mathlib.Core.Path.{_≡_, refl, ap, sym, _∙_}
 use mathlib.Core.Logic.{_↔_}
 use mathlib.Core.Bool.{Bool, true, false, cond}
-use mathlib.Core.List.{List, [], _∷_, _++_}
-use native.Mathlib.Nat.{le-refl}
+use mathlib.Core.List.{List, [], _∷_, _++_, append-assoc, append-nil}
 use native.Mathlib.Decide.{decLt}
 use native.Mathlib.Omega.{arith}
 use lib.ListN.{take, drop, length, getD, length-append, length-drop, List·getD-append}
@@ -17,18 +16,19 @@ use Rattle.derivation.specs.Grammar.{Rule, Grammar, rule}
 use Rattle.grammar.specs.declared.reading.Sections.{Sections}
 use Rattle.grammar.specs.declared.reading.Pass.the-variants.{To}
 use Rattle.grammar.specs.declared.reading.Reading.the-variants.{Accepted}
-use Rattle.grammar.specs.Reading.{byte, eachFrom, isFlag, isSymbol, ruleFrom, rulesFrom, flagsSection, rulesSection, sectionsAt, readOf}
+use Rattle.grammar.specs.Reading.{byte, eachFrom, isFlag, isSymbol, ruleFrom, rulesFrom, flagsSection, rulesSection, sectionsAt, sectionsOf, readOf}
 use Rattle.grammar.specs.Told.{readingTold}
 use Rattle.grammar.specs.Value.{standing, after, rulesAt, grammarOf}
 use Rattle.grammar.specs.Limits.{FlagsWithin, SymbolWithin, RuleWithin, WithinLimits}
 use Rattle.grammar.specs.Encoding.{encodeRule, encodeRules, encode}
-use Rattle.grammar.proofs.ReadingLaws.{sections-whole, read-whole}
+use Rattle.grammar.specs.Beginning.{FlagsSoFar, bytesSoFar}
+use Rattle.grammar.proofs.ReadingLaws.{each-none, each-past, rules-none, rules-step, sections-whole, read-whole}
 use Rattle.grammar.proofs.Accepted.{accepted}
 use Rattle.grammar.proofs.Encoded.{class-count, category-count, rule-count, accepted-encodes}
 
 -- a byte that stands at a position, and the bytes after it
 module _ (g rest : List ℕ) (y at : ℕ) (e : drop at g ≡ y ∷ rest) where
-  byte-inside : at < length g
+  pub byte-inside : at < length g
   byte-inside = let l : length g - at ≡ suc (length rest) = sym (length-drop at g) ∙ ap length e in omega arith
 
   pub byte-is : byte g at ≡ y
@@ -48,24 +48,18 @@ module _ (g x rest : List ℕ) (at : ℕ) (e : drop at g ≡ x ++ rest) where
   pub bytes-after : drop (at + length x) g ≡ rest
   bytes-after = sym (drop-drop (length x) at g) ∙ rw e (drop-append-seam x rest)
 
-  bytes-inside : at ≤ length g → at + length x ≤ length g
+  pub bytes-inside : at ≤ length g → at + length x ≤ length g
   bytes-inside h = let l : length g - at ≡ length x + length rest = sym (length-drop at g) ∙ rw e (length-append x rest) in omega arith
 
--- bytes that pass the test are passed over
-module _ (ok : ℕ → Bool) (fault : ℕ → Refusal) (g : List ℕ) where
-  each-passed : (count at : ℕ) → at + count ≤ length g → ((i : ℕ) → i < count → ok (byte g (at + i)) ≡ true) → eachFrom ok fault g count at ≡ To (at + count)
-  unfolding eachFrom
-  each-passed zero at h good = let z : at + 0 ≡ at = omega arith in rw z
-  each-passed (suc count) at h good =
-      let z : at + 0 ≡ at = omega arith in
-      let next : at + suc count ≡ at + 1 + count = omega arith in
-      rw (lt-ltb at (length g) (omega arith), rw z at (good 0 (omega arith)), next)
-      (each-passed count (at + 1) (omega arith) (λ i l. let s : at + 1 + i ≡ at + suc i = omega arith in rw s (good (suc i) (omega arith))))
+-- bytes that stand at a position and pass the test are passed over
+module _ (ok : ℕ → Bool) (fault : ℕ → Refusal) (g x rest : List ℕ) (at : ℕ) (e : drop at g ≡ x ++ rest) (h : at ≤ length g) (good : (i : ℕ) → i < length x → ok (getD x i 0) ≡ true) where
+  pub bytes-past : (count : ℕ) → length x ≤ count → eachFrom ok fault g count at ≡ eachFrom ok fault g (count - length x) (at + length x)
+  bytes-past count l = each-past ok fault g (length x) count at l (bytes-inside g x rest at e h) (λ i k. rw (bytes-at g x rest at e i k) (good i k))
 
-  bytes-passed : (x rest : List ℕ) (at : ℕ) → drop at g ≡ x ++ rest → at ≤ length g → ((i : ℕ) → i < length x → ok (getD x i 0) ≡ true) → eachFrom ok fault g (length x) at ≡ To (at + length x)
-  bytes-passed x rest at e h good = each-passed (length x) at (bytes-inside g x rest at e h) (λ i l. rw (bytes-at g x rest at e i l) (good i l))
+  bytes-passed : eachFrom ok fault g (length x) at ≡ To (at + length x)
+  bytes-passed = bytes-past (length x) (omega arith) ∙ each-none ok fault g (length x - length x) (at + length x) (omega arith)
 
-symbol-passed : (G : Grammar) (b : ℕ) → SymbolWithin G b → isSymbol (length (G .classes)) (length (G .categories)) b ≡ true
+pub symbol-passed : (G : Grammar) (b : ℕ) → SymbolWithin G b → isSymbol (length (G .classes)) (length (G .categories)) b ≡ true
 symbol-passed G b s = go (ltb b 128) refl
   where
     go : (low : Bool) → ltb b 128 ≡ low → cond low (ltb b (length (G .classes))) (ltb (b - 128) (length (G .categories))) ≡ true
@@ -86,12 +80,12 @@ module _ (g x rest : List ℕ) (at : ℕ) (e : drop at g ≡ (length x ∷ x) ++
   flags-after : drop (at + 1 + length x) g ≡ rest
   flags-after = bytes-after g x rest (at + 1) flags-next
 
-  flags-section-passed : (most : ℕ) → 1 ≤ length x → length x ≤ most → FlagsWithin x → flagsSection g most at ≡ To (at + 1 + length x)
+  flags-section-passed : {most : ℕ} → FlagsSoFar most (length x) x → flagsSection g most at ≡ To (at + 1 + length x)
   unfolding flagsSection
-  flags-section-passed most low high good =
+  flags-section-passed {most} w =
       let inside : at < length g = byte-inside g (x ++ rest) (length x) at e in
-      rw (lt-ltb at (length g) inside, count-is, le-leb 1 (length x) low, le-leb (length x) most high)
-      (bytes-passed isFlag _ g x rest (at + 1) flags-next (omega arith) (λ i l. le-leb (getD x i 0) 1 (good i l)))
+      rw (lt-ltb at (length g) inside, count-is, le-leb 1 (length x) (w .low), le-leb (length x) most (w .high))
+      (bytes-passed isFlag _ g x rest (at + 1) flags-next (omega arith) (λ i l. le-leb (getD x i 0) 1 (w .within i l)))
 
 -- a rule that stands at a position
 module _ (g rest : List ℕ) (r : Rule) (at : ℕ) (e : drop at g ≡ encodeRule r ++ rest) where
@@ -117,9 +111,6 @@ module _ (g rest : List ℕ) (r : Rule) (at : ℕ) (e : drop at g ≡ encodeRule
   rule-after : drop (after g at) g ≡ rest
   rule-after = rw length-is (bytes-after g (r .right) rest (at + 2) right-next)
 
-  rule-inside : after g at ≤ length g
-  rule-inside = let l = length-inside in rw length-is (bytes-inside g (r .right) rest (at + 2) right-next (omega arith))
-
   rule-passed : (G : Grammar) → RuleWithin G r → ruleFrom g (length (G .classes)) (length (G .categories)) at ≡ To (after g at)
   unfolding ruleFrom
   rule-passed G w =
@@ -135,63 +126,123 @@ module _ (g rest : List ℕ) (r : Rule) (at : ℕ) (e : drop at g ≡ encodeRule
       (bytes-passed (isSymbol (length (G .classes)) (length (G .categories))) _ g (r .right) rest (at + 2) right-next (omega arith)
       (λ d k. symbol-passed G (getD (r .right) d 0) (w .symbols d k)))
 
--- rules that stand at a position, to the end
-rules-passed :
-    (G : Grammar) (g : List ℕ) (rs : List Rule) (at : ℕ) → at ≤ length g → drop at g ≡ encodeRules rs → ((p : ℕ) → p < length rs → RuleWithin G (getD rs p (rule 0 []))) →
-    rulesFrom g (length (G .classes)) (length (G .categories)) (length rs) at ≡ To (length g)
-unfolding rulesFrom encodeRules
-rules-passed G g [] at h e each =
-    let l : length g - at ≡ 0 = sym (length-drop at g) ∙ ap length e in
-    let z : at ≡ length g = omega arith in
-    ap To z
-rules-passed G g (r ∷ rs) at h e each =
-    let rest = encodeRules rs in
-    rw (rule-passed g rest r at e G (each 0 (omega arith)))
-    (rules-passed G g rs (after g at) (rule-inside g rest r at e) (rule-after g rest r at e) (λ p l. each (suc p) (omega arith)))
+-- rules that stand at a position are passed over, and then come the others of P
+rules-past :
+    (G : Grammar) (g : List ℕ) (rs : List Rule) (rest : List ℕ) (P at : ℕ) → drop at g ≡ encodeRules rs ++ rest → ((p : ℕ) → p < length rs → RuleWithin G (getD rs p (rule 0 []))) → length rs ≤ P →
+    rulesFrom g (length (G .classes)) (length (G .categories)) P at ≡ rulesFrom g (length (G .classes)) (length (G .categories)) (P - length rs) (at + length (encodeRules rs))
+unfolding encodeRules
+rules-past G g [] rest P at e each l =
+    let z : at + 0 ≡ at = omega arith in
+    let m : P - 0 ≡ P = omega arith in
+    rw (z, m)
+rules-past G g (r ∷ rs) rest P at e each l =
+    let more = encodeRules rs ++ rest in
+    let f : drop at g ≡ encodeRule r ++ more = e ∙ append-assoc (encodeRule r) (encodeRules rs) rest in
+    let m : P - suc (length rs) ≡ P - 1 - length rs = omega arith in
+    let p : at + length (encodeRule r ++ encodeRules rs) ≡ after g at + length (encodeRules rs) = omega (arith, length-append (encodeRule r) (encodeRules rs), length-is g more r at f) in
+    rules-step g (length (G .classes)) (length (G .categories)) P at (omega arith)
+    ∙ rw (rule-passed g more r at f G (each 0 (omega arith)), m, p)
+    (rules-past G g rs rest (P - 1) (after g at) (rule-after g more r at f) (λ i j. each (suc i) (omega arith)) (omega arith))
 
-rules-are : (g : List ℕ) (rs : List Rule) (at : ℕ) → drop at g ≡ encodeRules rs → rulesAt g (length rs) at ≡ rs
+rules-are : (g : List ℕ) (rs : List Rule) (rest : List ℕ) (at : ℕ) → drop at g ≡ encodeRules rs ++ rest → rulesAt g (length rs) at ≡ rs
 unfolding rulesAt encodeRules
-rules-are g [] at e = refl
-rules-are g (r ∷ rs) at e = rw (rule-is g (encodeRules rs) r at e, rules-are g rs (after g at) (rule-after g (encodeRules rs) r at e))
+rules-are g [] rest at e = refl
+rules-are g (r ∷ rs) rest at e =
+    let more = encodeRules rs ++ rest in
+    let f : drop at g ≡ encodeRule r ++ more = e ∙ append-assoc (encodeRule r) (encodeRules rs) rest in
+    rw (rule-is g more r at f, rules-are g rs rest (after g at) (rule-after g more r at f))
 
--- the section of rules that stands at a position, to the end
-module _ (G : Grammar) (g : List ℕ) (at : ℕ) (e : drop at g ≡ length (G .rules) ∷ encodeRules (G .rules)) where
-  rules-next : drop (at + 1) g ≡ encodeRules (G .rules)
-  rules-next = byte-after g (encodeRules (G .rules)) (length (G .rules)) at e
+-- bytes that begin with all classes
+module _ (g f rest : List ℕ) (e : g ≡ (length f ∷ f) ++ rest) where
+  pub classes-next : drop (1 + length f) g ≡ rest
+  classes-next = flags-after g f rest 0 e
 
-  rule-count-is : byte g at ≡ length (G .rules)
-  rule-count-is = byte-is g (encodeRules (G .rules)) (length (G .rules)) at e
+  pub classes-to : FlagsSoFar 128 (length f) f → flagsSection g 128 0 ≡ To (1 + length f)
+  classes-to = flags-section-passed g f rest 0 e
 
-  rules-section-are : rulesAt g (byte g at) (at + 1) ≡ G .rules
-  rules-section-are = rw rule-count-is (rules-are g (G .rules) (at + 1) rules-next)
+-- bytes that begin with all classes and categories
+module _ (g f h rest : List ℕ) (e : g ≡ (length f ∷ f) ++ ((length h ∷ h) ++ rest)) where
+  pub categories-next : drop (1 + length f + 1 + length h) g ≡ rest
+  categories-next = flags-after g h rest (1 + length f) (classes-next g f _ e)
 
-  rules-section-passed : WithinLimits G → rulesSection g (length (G .classes)) (length (G .categories)) at ≡ To (length g)
+  pub categories-to : FlagsSoFar 32 (length h) h → flagsSection g 32 (1 + length f) ≡ To (1 + length f + 1 + length h)
+  categories-to = flags-section-passed g h rest (1 + length f) (classes-next g f _ e)
+
+  pub counts-are : (byte g 0 ≡ length f) × (byte g (1 + length f) ≡ length h)
+  counts-are = (count-is g f _ 0 e, count-is g h rest (1 + length f) (classes-next g f _ e))
+
+pub classes-within : {G : Grammar} → WithinLimits G → FlagsSoFar 128 (length (G .classes)) (G .classes)
+classes-within w = record { low = w .some-class; high = w .classes; within = w .class-flags }
+
+pub categories-within : {G : Grammar} → WithinLimits G → FlagsSoFar 32 (length (G .categories)) (G .categories)
+categories-within w = record { low = w .some-category; high = w .categories; within = w .category-flags }
+
+-- where the count of rules stands
+abbrev ruleCountAt : Grammar → ℕ
+ruleCountAt G = 1 + length (G .classes) + 1 + length (G .categories)
+
+-- bytes that begin with all classes and categories, P, and the rules of G
+module _ (G : Grammar) (P : ℕ) (g rest : List ℕ) (e : g ≡ bytesSoFar G P ++ rest) where
+  pub sections-are : g ≡ (length (G .classes) ∷ G .classes) ++ ((length (G .categories) ∷ G .categories) ++ (P ∷ (encodeRules (G .rules) ++ rest)))
+  sections-are = e ∙ simp append-assoc
+
+  rules-section-next : drop (ruleCountAt G) g ≡ P ∷ (encodeRules (G .rules) ++ rest)
+  rules-section-next = categories-next g (G .classes) (G .categories) _ sections-are
+
+  rule-count-is : byte g (ruleCountAt G) ≡ P
+  rule-count-is = byte-is g (encodeRules (G .rules) ++ rest) P (ruleCountAt G) rules-section-next
+
+  rules-next : drop (ruleCountAt G + 1) g ≡ encodeRules (G .rules) ++ rest
+  rules-next = byte-after g (encodeRules (G .rules) ++ rest) P (ruleCountAt G) rules-section-next
+
+  rules-end : ruleCountAt G + 1 + length (encodeRules (G .rules)) ≡ length (bytesSoFar G P)
+  rules-end =
+      omega (arith, length-append (G .classes) ((length (G .categories) ∷ G .categories) ++ (P ∷ encodeRules (G .rules))), length-append (G .categories) (P ∷ encodeRules (G .rules)))
+
+  pub rules-section-past :
+      WithinLimits G → length (G .rules) ≤ P → P ≤ 128 →
+      rulesSection g (length (G .classes)) (length (G .categories)) (ruleCountAt G) ≡ rulesFrom g (length (G .classes)) (length (G .categories)) (P - length (G .rules)) (length (bytesSoFar G P))
   unfolding rulesSection
-  rules-section-passed within =
-      let inside : at < length g = byte-inside g (encodeRules (G .rules)) (length (G .rules)) at e in
-      rw (lt-ltb at (length g) inside, rule-count-is, le-leb (length (G .rules)) 128 (within .rules))
-      (rules-passed G g (G .rules) (at + 1) (omega arith) rules-next (within .each))
+  rules-section-past within fits high =
+      let inside : ruleCountAt G < length g = byte-inside g (encodeRules (G .rules) ++ rest) P (ruleCountAt G) rules-section-next in
+      rw (lt-ltb (ruleCountAt G) (length g) inside, rule-count-is, le-leb P 128 high)
+      (rw rules-end at (rules-past G g (G .rules) rest P (ruleCountAt G + 1) rules-next (within .each) fits))
 
--- each section from where it stands
+-- the counts and offsets of bytes that begin with an encoding
+abbrev sectionsEncoded : Grammar → List ℕ → Sections
+sectionsEncoded G g = sectionsAt g (1 + length (G .classes)) (ruleCountAt G) (length (encode G))
+
+-- bytes that begin with an encoding: its sections are read, and stand for the grammar
+module _ (G : Grammar) (g rest : List ℕ) (e : g ≡ encode G ++ rest) where
+  pub encoding-sections : WithinLimits G → sectionsOf g ≡ Accepted (sectionsEncoded G g)
+  unfolding encode
+  encoding-sections within =
+      let P = length (G .rules) in
+      let parts = sections-are G P g rest e in
+      let c = counts-are g (G .classes) (G .categories) _ parts in
+      let rules = rules-section-past G P g rest e within (omega arith) (within .rules) ∙ rules-none g (length (G .classes)) (length (G .categories)) P P (length (bytesSoFar G P)) (omega arith) in
+      sections-whole g
+      (1 + length (G .classes)) (classes-to g (G .classes) _ parts (classes-within within))
+      (ruleCountAt G) (categories-to g (G .classes) (G .categories) _ parts (categories-within within))
+      (length (bytesSoFar G P)) (rw (c .0, c .1) rules)
+
+  encoding-value : grammarOf g (sectionsEncoded G g) ≡ G
+  unfolding encode grammarOf
+  encoding-value =
+      let P = length (G .rules) in
+      let parts = sections-are G P g rest e in
+      rw (
+        flags-are g (G .classes) _ 0 parts,
+        flags-are g (G .categories) _ (1 + length (G .classes)) (classes-next g (G .classes) _ parts),
+        rule-count-is G P g rest e,
+        rules-are g (G .rules) rest (ruleCountAt G + 1) (rules-next G P g rest e),
+      )
+
 encoding-read : (G : Grammar) → WithinLimits G → (b : List ℕ) → b ≡ encode G → (s : Sections) × (readOf b ≡ Accepted s) × (grammarOf b s ≡ G)
-unfolding encode grammarOf
 encoding-read G within b encoded =
-    let third = length (G .rules) ∷ encodeRules (G .rules) in
-    let second = (length (G .categories) ∷ G .categories) ++ third in
-    let a = 1 + length (G .classes) in
-    let c = a + 1 + length (G .categories) in
-    let at-second : drop a b ≡ second = flags-after b (G .classes) second 0 encoded in
-    let at-third : drop c b ≡ third = flags-after b (G .categories) third a at-second in
-    let classes = flags-section-passed b (G .classes) second 0 encoded 128 (within .some-class) (within .classes) (within .class-flags) in
-    let categories = flags-section-passed b (G .categories) third a at-second 32 (within .some-category) (within .categories) (within .category-flags) in
-    let rules = rules-section-passed G b c at-third within in
-    let s = sectionsAt b a c (length b) in (
-      s,
-      read-whole b s
-          (sections-whole b a classes c categories (length b) (rw (count-is b (G .classes) second 0 encoded, count-is b (G .categories) third a at-second) rules))
-          (le-refl (length b)),
-      rw (flags-are b (G .classes) second 0 encoded, flags-are b (G .categories) third a at-second, rules-section-are G b c at-third),
-    )
+    let e : b ≡ encode G ++ [] = encoded ∙ sym (append-nil (encode G)) in
+    let s = sectionsEncoded G b in
+    (s, read-whole b s (encoding-sections G b [] e within) (omega (arith, ap length encoded)), encoding-value G b [] e)
 
 -- the encoding of a grammar within the limits is accepted, and that grammar is read
 pub encoding-accepted : (G : Grammar) → WithinLimits G → (s : Sections) × (readOf (encode G) ≡ Accepted s) × (grammarOf (encode G) s ≡ G)

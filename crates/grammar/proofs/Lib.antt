@@ -4,3 +4,7 @@ pub mod Accepted
 pub mod Encoded
 pub mod Encoding
 pub mod Unique
+pub mod Growing
+pub mod Stopping
+pub mod Refusals
+pub mod Begins

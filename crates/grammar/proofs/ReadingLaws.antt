@@ -1,5 +1,5 @@
 -- Laws of `specs/Reading.antt`: one step of each definition, by the tests that led there.
-use Prim.Native.Nat.{ℕ, suc, _+_, _-_, _≤_, _<_}
+use Prim.Native.Nat.{ℕ, zero, suc, _+_, _-_, _≤_, _<_}
 use mathlib.Core.Path.{_≡_, refl, ap, _∙_}
 use mathlib.Core.Bool.{Bool, true, false, cond}
 use mathlib.Core.List.{List}
@@ -35,6 +35,19 @@ module _ (ok : ℕ → Bool) (fault : ℕ → Refusal) (g : List ℕ) where
 
   pub each-more : (count at : ℕ) → 0 < count → at < length g → ok (byte g at) ≡ true → eachFrom ok fault g count at ≡ eachFrom ok fault g (count - 1) (at + 1)
   each-more count at h l e = each-step count at h ∙ rw (lt-ltb at (length g) l, e)
+
+  -- k bytes that pass the test, and those still to come
+  pub each-past : (k count at : ℕ) → k ≤ count → at + k ≤ length g → ((i : ℕ) → i < k → ok (byte g (at + i)) ≡ true) → eachFrom ok fault g count at ≡ eachFrom ok fault g (count - k) (at + k)
+  each-past zero count at l h good =
+      let z : at + 0 ≡ at = omega arith in
+      let m : count - 0 ≡ count = omega arith in
+      rw (z, m)
+  each-past (suc k) count at l h good =
+      let z : at + 0 ≡ at = omega arith in
+      let p : at + suc k ≡ at + 1 + k = omega arith in
+      let m : count - suc k ≡ count - 1 - k = omega arith in
+      each-more count at (omega arith) (omega arith) (rw z at (good 0 (omega arith)))
+      ∙ rw (p, m) (each-past k (count - 1) (at + 1) (omega arith) (omega arith) (λ i j. let s : at + 1 + i ≡ at + suc i = omega arith in rw s (good (suc i) (omega arith))))
 
 module _ (g : List ℕ) (t n : ℕ) where
   pub rules-step : (count at : ℕ) → 0 < count → rulesFrom g t n count at ≡ thenRead (ruleFrom g t n at) (λ next. rulesFrom g t n (count - 1) next)

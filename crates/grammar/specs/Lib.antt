@@ -3,6 +3,7 @@ pub mod Told
 pub mod Value
 pub mod Limits
 pub mod Encoding
+pub mod Beginning
 pub mod Given
 pub mod View
 pub mod inner
