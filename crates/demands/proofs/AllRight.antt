@@ -51,6 +51,10 @@ encodes-read {G} {g} e =
 pub read-encodes : {g : List ℕ} {s : Sections} → readOf g ≡ Accepted s → Encodes (grammarOf g s) g
 read-encodes {g} {s} e = let a = accepted-encodes g s e in record { within = a .0; encoding = a .1 }
 
+-- the grammar that is given is the one that is encoded
+pub given-is : {G : Grammar} {g : List ℕ} → Encodes G g → grammarGiven g ≡ G
+given-is e = let r = encodes-read e .1 in rw (r .read) (r .value)
+
 -- the first checks of a question pass
 abbrev pub PassesFor : (x : Input) (q : Query) → Sections → Type 0
 PassesFor x q s = Passes (x .grammar) (x .line) (askedOf q) (length (x .words)) (length (x .depths)) s

@@ -17,17 +17,17 @@ use Rattle.refusals.specs.Row.{rowOf}
 use Rattle.refusals.specs.Order.{early}
 use Rattle.refusals.specs.Told.{answered, refused}
 use Rattle.derivation.specs.Grammar.{Grammar}
-use Rattle.checks.specs.Line.{IsLine, LineOutcome, tooLong, badToken, isLine, lineCheck}
+use Rattle.checks.specs.Line.{IsLine, FirstNoClass, LineOutcome, tooLong, badToken, isLine, lineCheck}
 use Rattle.checks.specs.Question.{askedCheck}
 use Rattle.checks.specs.Memory.{chartSize, depthsSize, workCheck}
-use Rattle.checks.proofs.Laws.{not-both, line-outcome, outcome-unique, line-long, line-passed, too-small, large-enough}
+use Rattle.checks.proofs.Laws.{one-refusal, not-both, line-outcome, outcome-unique, line-long, line-passed, too-small, large-enough}
 use Rattle.grammar.specs.declared.reading.Sections.{Sections}
 use Rattle.grammar.specs.declared.reading.Reading.{Reading}
 use Rattle.grammar.specs.declared.reading.Reading.the-variants.{Accepted, Refused}
 use Rattle.grammar.specs.Reading.{readOf}
 use Rattle.grammar.specs.Value.{grammarOf}
 use Rattle.grammar.specs.Told.{readingTold}
-use Rattle.grammar.specs.Beginning.{Refusing}
+use Rattle.grammar.specs.Beginning.{NextByte, countBetween, flagByte, leftOf, symbolOf, noMore, numberOf, Refusing, endsEarly, notRight}
 use Rattle.grammar.proofs.Refusals.{refused-iff}
 use Rattle.grammar.proofs.Accepted.{accepted}
 use Rattle.grammar.proofs.Encoded.{class-count, category-count}
@@ -38,24 +38,35 @@ use Rattle.demands.specs.TurnedDown.{by, Encodes, FirstWrong, AllRight, 
 use Rattle.demands.proofs.Right.{askedOf, AllNumbers, numbers-wrong, numbers-right, right-numbers, wrong-numbers}
 use Rattle.demands.proofs.AllRight.{ReadAs, encodes-read, read-encodes, PassesFor, right-passes, work-right}
 
--- a reading that tells a refusal is one
-reading-refused : (r : Reading) {row : Row} → readingTold r ≡ refused row → (refusal : Refusal) × (r ≡ Refused refusal) × (rowOf refusal ≡ row)
-reading-refused (Accepted s) e = absurd (let z : _≡_ {A = ℕ} 0 1 = cc in omega arith)
-reading-refused (Refused refusal) e = (refusal, refl, cc)
+-- what is reported of a question before the filling
+abbrev pub first : Input → Query → Check
+first x q = early (checksOf (x .grammar) (x .line) (askedOf q) (x .words) (x .depths) check.Passed check.Passed)
 
-module _ (x : Input) (q : Query) (fact room : Check) where
-  -- what is reported before the filling
-  abbrev first : Check
-  first = early (checksOf (x .grammar) (x .line) (askedOf q) (x .words) (x .depths) fact room)
+-- refusals of grammar bytes have numbers up to 5
+grammar-number : {g : List ℕ} {row : Row} → Refusing g row → row .number ≤ 9
+grammar-number (endsEarly b n) = omega arith
+grammar-number (notRight {next = next} b y w rest) = go next
+  where
+    go : (next : NextByte) → numberOf next ≤ 9
+    go (countBetween low high) = omega arith
+    go flagByte = omega arith
+    go (leftOf G) = omega arith
+    go (symbolOf G) = omega arith
+    go noMore = omega arith
 
-  -- it is refused by this row
+module _ (x : Input) (q : Query) where
+  -- the question is refused before the filling, by this row
   abbrev pub TurnedEarly : Row → Type 0
-  TurnedEarly row = (refusal : Refusal) × (first ≡ check.Refused refusal) × (rowOf refusal ≡ row)
+  TurnedEarly row = (refusal : Refusal) × (first x q ≡ check.Refused refusal) × (rowOf refusal ≡ row)
 
   pub grammar-turned : {row : Row} → Refusing (x .grammar) row → TurnedEarly row
-  grammar-turned {row} w = let r = reading-refused (readOf (x .grammar)) (refused-iff (x .grammar) row .1 w) in (r .0, rw (r .1), r .2)
+  grammar-turned {row} w = go (readOf (x .grammar)) refl (refused-iff (x .grammar) row .1 w)
+    where
+      go : (r : Reading) → readOf (x .grammar) ≡ r → readingTold r ≡ refused row → TurnedEarly row
+      go (Accepted s) read h = absurd (let z : _≡_ {A = ℕ} 0 1 = cc in omega arith)
+      go (Refused refusal) read h = (refusal, rw read, cc)
 
-  module _ (G : Grammar) (e : Encodes G (x .grammar)) where
+  module _ {G : Grammar} (e : Encodes G (x .grammar)) where
     abbrev s : Sections
     s = encodes-read e .0
 
@@ -65,9 +76,9 @@ module _ (x : Input) (q : Query) (fact room : Check) where
     pub long-turned : 63 < length (x .line) → TurnedEarly (by 6 63)
     long-turned l = (LineTooLong, rw (read .read, line-long (s .classes) (x .line) l), refl)
 
-    pub token-turned : {t : ℕ} → LineOutcome (length (G .classes)) (x .line) (check.Refused (TokenNoClass t)) → TurnedEarly (by 7 t)
-    token-turned {t} o =
-        let is : lineCheck (s .classes) (x .line) ≡ check.Refused (TokenNoClass t) = outcome-unique (s .classes) (x .line) (line-outcome (s .classes) (x .line)) (rw (read .classes) o) in
+    pub token-turned : {t : ℕ} → length (x .line) ≤ 63 → FirstNoClass (length (G .classes)) (x .line) t → TurnedEarly (by 7 t)
+    token-turned {t} short f =
+        let is : lineCheck (s .classes) (x .line) ≡ check.Refused (TokenNoClass t) = outcome-unique (s .classes) (x .line) (line-outcome (s .classes) (x .line)) (badToken short (rw (read .classes) f)) in
         (TokenNoClass t, rw (read .read, is), refl)
 
     module _ (line : IsLine (length (G .classes)) (x .line)) where
@@ -96,25 +107,57 @@ module _ (x : Input) (q : Query) (fact room : Check) where
             (DepthsTooSmall, rw (read .read, line-right, asked-right, enough, is), refl)
 
   -- where all is right nothing is refused before the filling
-  pub right-passed : {G : Grammar} → AllRight G x q → first ≡ check.Passed
-  right-passed a = early-passed (x .words) (x .depths) fact room (right-passes a .2)
+  pub right-passed : {G : Grammar} → AllRight G x q → first x q ≡ check.Passed
+  right-passed a = early-passed (x .words) (x .depths) check.Passed check.Passed (right-passes a .2)
 
-  -- what is refused before the filling is in the table
-  pub early-table : (refusal : Refusal) → first ≡ check.Refused refusal → TurnedDown x q (rowOf refusal)
-  early-table refusal e = go (readOf (x .grammar)) refl e
-    where
-      module _ (s : Sections) (read : readOf (x .grammar) ≡ Accepted s) where
-        abbrev G : Grammar
-        G = grammarOf (x .grammar) s
+  -- what is refused before the filling is in the table, and has a number up to 9
+  module _ (refusal : Refusal) (e : first x q ≡ check.Refused refusal) where
+    abbrev Listed : Refusal → Type 0
+    Listed r = TurnedDown x q (rowOf r) × (rowOf r .number ≤ 9)
 
-        encodes : Encodes G (x .grammar)
-        encodes = read-encodes read
+    -- one refusal is found
+    same : {other : Refusal} → first x q ≡ check.Refused other → Listed other → Listed refusal
+    same h t = rw (one-refusal e h) t
 
-        ofLine : (c : Check) → lineCheck (s .classes) (x .line) ≡ c → LineOutcome (s .classes) (x .line) c → TurnedDown x q (rowOf refusal)
-        ofLine c is (tooLong l) = ?
-        ofLine c is (badToken l t) = ?
-        ofLine c is (isLine l) = ?
+    module _ (s : Sections) (read : readOf (x .grammar) ≡ Accepted s) where
+      abbrev classes : length (grammarOf (x .grammar) s .classes) ≡ s .classes
+      classes = class-count (x .grammar) s (accepted (x .grammar) s read .0)
 
-      go : (r : Reading) → readOf (x .grammar) ≡ r → first ≡ check.Refused refusal → TurnedDown x q (rowOf refusal)
-      go (Refused other) read h = ?
-      go (Accepted s) read h = ofLine s read (lineCheck (s .classes) (x .line)) refl (line-outcome (s .classes) (x .line))
+      abbrev categories : length (grammarOf (x .grammar) s .categories) ≡ s .categories
+      categories = category-count (x .grammar) s (accepted (x .grammar) s read .0)
+
+      module _ (l : IsLine (s .classes) (x .line)) where
+        abbrev line : lineCheck (s .classes) (x .line) ≡ check.Passed
+        line = line-passed (s .classes) (x .line) .1 l
+
+        memory-listed : askedCheck (s .categories) (length (x .line)) (askedOf q) ≡ check.Passed → Dec (chartSize (s .categories) (length (x .line)) ≤ length (x .words)) → Dec (depthsSize (s .categories) (length (x .line)) ≤ length (x .depths)) → Listed refusal
+        memory-listed asked (no w) d =
+            let small = lt-of-not-le w in
+            same {other = ChartTooSmall} (rw (read, line, asked, too-small _ _ ChartTooSmall small))
+            (wordsTooFew (read-encodes read) (rw classes l) (rw categories (right-numbers _ _ q asked)) (rw categories small), omega arith)
+        memory-listed asked (yes w) (no d) =
+            let small = lt-of-not-le d in
+            same {other = DepthsTooSmall} (rw (read, line, asked, large-enough _ _ ChartTooSmall w, too-small _ _ DepthsTooSmall small))
+            (depthsTooFew (read-encodes read) (rw classes l) (rw categories (right-numbers _ _ q asked)) (rw categories w) (rw categories small), omega arith)
+        memory-listed asked (yes w) (yes d) =
+            absurd (not-both e (early-passed {asked = askedOf q} (x .words) (x .depths) check.Passed check.Passed (record { read = read; rest = rw (line, asked, work-right _ _ _ _ w d) })))
+
+        numbers-listed : (c : Check) → askedCheck (s .categories) (length (x .line)) (askedOf q) ≡ c → Listed refusal
+        numbers-listed (check.Refused other) is =
+            let f = wrong-numbers (s .categories) (length (x .line)) q other is in
+            same {other = other} (rw (read, line, is)) (rw (f .2) (numberWrong {q = q} {place = f .0} (read-encodes read) (rw classes l) (rw categories (f .1)), omega arith))
+        numbers-listed check.Passed is = memory-listed is (decLe _ _) (decLe _ _)
+
+      line-listed : (c : Check) → lineCheck (s .classes) (x .line) ≡ c → LineOutcome (s .classes) (x .line) c → Listed refusal
+      line-listed _ is (tooLong l) = same {other = LineTooLong} (rw (read, is)) (lineTooLong (read-encodes read) l, omega arith)
+      line-listed _ is (badToken {t = t} short f) = same {other = TokenNoClass t} (rw (read, is)) (tokenNoClass (read-encodes read) short (rw classes f), omega arith)
+      line-listed _ is (isLine l) = numbers-listed l _ refl
+
+    grammar-listed : (r : Reading) → readOf (x .grammar) ≡ r → Listed refusal
+    grammar-listed (Refused other) read =
+        let w = refused-iff (x .grammar) (rowOf other) .0 (rw read) in
+        same {other = other} (rw read) (grammarWrong w, grammar-number w)
+    grammar-listed (Accepted s) read = line-listed s read _ refl (line-outcome (s .classes) (x .line))
+
+    pub early-listed : TurnedDown x q (rowOf refusal) × (rowOf refusal .number ≤ 9)
+    early-listed = grammar-listed _ refl

@@ -75,38 +75,76 @@ pub data IsSecret (G : Grammar) (line : List ℕ) (t : ℕ) : Type 0 where
   flagged : getD (G .classes) (getD line t 0) 0 ≡ 1 → IsSecret G line t
   covered : (A i j : ℕ) → getD (G .categories) A 0 ≡ 1 → Derives G line A i j → i ≤ t → t < j → IsSecret G line t
 
+-- a mark of token t is 1 where it is secret, and 0 where it is not
+pub record MarksToken (G : Grammar) (line : List ℕ) (t mark : ℕ) : Type 0 where
+  pub one : (mark ≡ 1) ↔ IsSecret G line t
+  pub zero : (mark ≡ 0) ↔ ¬ IsSecret G line t
+
+-- a row that shows exactly the ends of A from i, how many they are, and the smallest
+pub record ShowsEnds (G : Grammar) (line : List ℕ) (A i row count smallest : ℕ) : Type 0 where
+  pub each : (j : ℕ) → Member row j ↔ Derives G line A i j
+  pub counted : count ≡ countBelow 64 row
+  pub first : First row smallest
+
 -- Demand 2. A category is reported from one place to another exactly when the grammar derives those tokens from it, in the textbook sense.
 pub record Demand2 : Type 0 where
   -- bit j of word A×(n+1)+i is set exactly when A rewrites to the tokens of i..j
-  pub words : {G : Grammar} {x : Input} {q : Query} {r : Result q} → Reports G x q r → (A i j : ℕ) → A < length (G .categories) → i ≤ length (x .line) →
+  pub words : {G : Grammar} {x : Input} {q : Query} {r : Result q} → Reports G x q r →
+      (A i j : ℕ) → A < length (G .categories) → i ≤ length (x .line) →
       Member (getD (r .words) (A * (length (x .line) + 1) + i) 0) j ↔ Derives G (x .line) A i j
   -- Chart counts exactly these
-  pub counted : {G : Grammar} {x : Input} {r : Result chart} → Reports G x chart r → (rounds facts : ℕ) → r .told ≡ answered (rounds ∷ facts ∷ []) →
+  pub facts : {G : Grammar} {x : Input} {r : Result chart} → Reports G x chart r →
+      (rounds facts : ℕ) → r .told ≡ answered (rounds ∷ facts ∷ []) →
       (l : List Span) × DerivedAre G (x .line) l × (length l ≡ facts)
-  -- the row that Ends tells shows exactly the ends of A from i; then how many they are, and the smallest
-  pub shown : {G : Grammar} {x : Input} {A i : ℕ} {r : Result (ends A i)} → Reports G x (ends A i) r → (row count smallest : ℕ) → r .told ≡ answered (row ∷ count ∷ smallest ∷ []) →
-      ((j : ℕ) → Member row j ↔ Derives G (x .line) A i j) × (count ≡ countBelow 64 row) × First row smallest
-  -- where Marks answers, the mark of a token is 1 where it is secret, and 0 where it is not
-  pub marked : {G : Grammar} {x : Input} {row : List ℕ} {r : Result (marks row)} → Reports G x (marks row) r → (secret : ℕ) → r .told ≡ answered (secret ∷ []) →
-      (t : ℕ) → t < length (x .line) →
-      ((getD (r .row) t 0 ≡ 1) ↔ IsSecret G (x .line) t) × ((getD (r .row) t 0 ≡ 0) ↔ ¬ IsSecret G (x .line) t)
+  -- Ends tells exactly the ends of A from i
+  pub ends : {G : Grammar} {x : Input} {A i : ℕ} {r : Result (ends A i)} → Reports G x (ends A i) r →
+      (row count smallest : ℕ) → r .told ≡ answered (row ∷ count ∷ smallest ∷ []) →
+      ShowsEnds G (x .line) A i row count smallest
+  -- Marks writes a mark for each token: 1 exactly where it is secret
+  pub marks : {G : Grammar} {x : Input} {row : List ℕ} {r : Result (marks row)} → Reports G x (marks row) r →
+      (secret : ℕ) → r .told ≡ answered (secret ∷ []) →
+      (t : ℕ) → t < length (x .line) → MarksToken G (x .line) t (getD (r .row) t 0)
 
 -- the number kept for (A, i, j)
 abbrev pub depthKept : List ℕ → List ℕ → (A i j : ℕ) → ℕ
 depthKept depths line A i j = getD depths ((A * (length line + 1) + i) * (length line + 1) + j) 0
 
+-- the number for (A, i, j): the least height of its trees, at most N×(j-i+1); 0 where it is no fact
+pub record LeastHeight (G : Grammar) (line : List ℕ) (A i j depth : ℕ) : Type 0 where
+  pub least : Fact G line A i j → Depth G line A i j depth
+  pub bounded : depth ≤ length (G .categories) * (j - i + 1)
+  pub none : ¬ Fact G line A i j → depth ≡ 0
+
+-- a derivation tree of (A, i, j) of exactly this height, with the document's choice at every node; its nodes in preorder are counted and written, all past them as it was
+pub record ShowsTree (G : Grammar) (line : List ℕ) (A i j depth nodes : ℕ) (row row′ : List ℕ) : Type 0 where
+  pub tree : Tree G line A i j
+  pub chosen : Chosen tree
+  pub high : height tree ≡ depth
+  pub counted : nodes ≡ length (preorder tree)
+  pub written : row′ ≡ bytes (preorder tree) ++ drop (length (bytes (preorder tree))) row
+
+-- exactly the records, ascending, each once, are counted and written, all past them as it was
+pub record ListsRecords (G : Grammar) (line : List ℕ) (count : ℕ) (rows rows′ : List Branch) : Type 0 where
+  pub records : List BranchValue
+  pub all : ForestIs G line records
+  pub counted : count ≡ length records
+  pub written : rows′ ≡ map recordOf records ++ drop (length records) rows
+
 -- Demand 3. A span's depth is the least height of any derivation tree for it.
 pub record Demand3 : Type 0 where
-  -- the number kept for a fact is the least height of its trees, at most N×(j-i+1); for what is no fact it is 0
-  pub depth : {G : Grammar} {x : Input} {q : Query} {r : Result q} → Reports G x q r → (A i j : ℕ) → A < length (G .categories) → i ≤ length (x .line) → j ≤ length (x .line) →
-      (Fact G (x .line) A i j → Depth G (x .line) A i j (depthKept (r .depths) (x .line) A i j) × (depthKept (r .depths) (x .line) A i j ≤ length (G .categories) * (j - i + 1)))
-      × (¬ Fact G (x .line) A i j → depthKept (r .depths) (x .line) A i j ≡ 0)
-  -- rounds is the greatest depth of a fact, 0 without facts
-  pub rounds : {G : Grammar} {x : Input} {r : Result chart} → Reports G x chart r → (rounds facts : ℕ) → r .told ≡ answered (rounds ∷ facts ∷ []) → RoundsIs G (x .line) rounds
-  -- Tree writes the nodes, in preorder, of a derivation tree of (A, i, j) of exactly its depth, with the document's choice at every node
-  pub shown : {G : Grammar} {x : Input} {A i j : ℕ} {row : List ℕ} {r : Result (tree A i j row)} → Reports G x (tree A i j row) r → (nodes : ℕ) → r .told ≡ answered (nodes ∷ []) →
-      (t : Tree G (x .line) A i j) × Chosen t × (height t ≡ depthKept (r .depths) (x .line) A i j)
-      × (nodes ≡ length (preorder t)) × (r .row ≡ bytes (preorder t) ++ drop (length (bytes (preorder t))) row)
-  -- Forest writes exactly the records, ascending, each once
-  pub listed : {G : Grammar} {x : Input} {rows : List Branch} {r : Result (forest rows)} → Reports G x (forest rows) r → (count : ℕ) → r .told ≡ answered (count ∷ []) →
-      (records : List BranchValue) × ForestIs G (x .line) records × (count ≡ length records) × (r .row ≡ map recordOf records ++ drop count rows)
+  -- the number kept for a fact is that height
+  pub depths : {G : Grammar} {x : Input} {q : Query} {r : Result q} → Reports G x q r →
+      (A i j : ℕ) → A < length (G .categories) → i ≤ length (x .line) → j ≤ length (x .line) →
+      LeastHeight G (x .line) A i j (depthKept (r .depths) (x .line) A i j)
+  -- Tree shows a tree of exactly that height
+  pub tree : {G : Grammar} {x : Input} {A i j : ℕ} {row : List ℕ} {r : Result (tree A i j row)} → Reports G x (tree A i j row) r →
+      (nodes : ℕ) → r .told ≡ answered (nodes ∷ []) →
+      ShowsTree G (x .line) A i j (depthKept (r .depths) (x .line) A i j) nodes row (r .row)
+  -- rounds is the greatest depth, 0 when nothing is found
+  pub rounds : {G : Grammar} {x : Input} {r : Result chart} → Reports G x chart r →
+      (rounds facts : ℕ) → r .told ≡ answered (rounds ∷ facts ∷ []) →
+      RoundsIs G (x .line) rounds
+  -- Forest lists the records
+  pub forest : {G : Grammar} {x : Input} {rows : List Branch} {r : Result (forest rows)} → Reports G x (forest rows) r →
+      (count : ℕ) → r .told ≡ answered (count ∷ []) →
+      ListsRecords G (x .line) count rows (r .row)

@@ -46,13 +46,13 @@ module _ (new row : List ℕ) where
 
 -- a row that begins with the values of f
 module _ (f : ℕ → ℕ) (n : ℕ) (row : List ℕ) where
-  listed-long : n ≤ length row → length (overwritten (listed f 0 n) row) ≡ length row
+  pub listed-long : n ≤ length row → length (overwritten (listed f 0 n) row) ≡ length row
   listed-long room = written-long (listed f 0 n) row (rw (length-listed f 0 n) room)
 
-  listed-at : (q : ℕ) → q < n → getD (overwritten (listed f 0 n) row) q 0 ≡ f q
+  pub listed-at : (q : ℕ) → q < n → getD (overwritten (listed f 0 n) row) q 0 ≡ f q
   listed-at q l = written-at (listed f 0 n) row q (rw (length-listed f 0 n) l) ∙ at-listed f 0 n q l
 
-  listed-past : (q : ℕ) → n ≤ q → getD (overwritten (listed f 0 n) row) q 0 ≡ getD row q 0
+  pub listed-past : (q : ℕ) → n ≤ q → getD (overwritten (listed f 0 n) row) q 0 ≡ getD row q 0
   listed-past q l = written-past (listed f 0 n) row q (rw (length-listed f 0 n) l)
 
 -- a digit that tells the truth of a test

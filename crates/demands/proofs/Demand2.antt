@@ -1,0 +1,127 @@
+-- Demand 2 holds: what is reported is what the grammar derives in the textbook sense.
+use Prim.Native.Nat.{ℕ, _+_, _*_, _≤_, _<_}
+use mathlib.Core.Path.{_≡_, refl, sym, ap, _∙_}
+use mathlib.Core.Logic.{_↔_}
+use mathlib.Core.List.{List, [], _∷_}
+use native.Mathlib.Omega.{arith}
+use lib.ListN.{length, getD}
+use Rattle.refusals.specs.Told.{Told, answered}
+use Rattle.positions.specs.Member.{Member}
+use Rattle.positions.specs.Count.{countBelow}
+use Rattle.positions.specs.First.{First}
+use Rattle.derivation.specs.Grammar.{Grammar}
+use Rattle.derivation.specs.Fact.{Fact}
+use Rattle.derivation.specs.Secret.{Secret, byClass, byFact}
+use Rattle.derivation.specs.Rewriting.{Tokens}
+use Rattle.derivation.specs.FactList.{Span, FactsAre}
+use Rattle.derivation.proofs.Rewriting.{textbook}
+use Rattle.filling.specs.Filled.{WorkFilled}
+use Rattle.grammar.specs.Given.{grammarGiven}
+use Rattle.chart.specs.Told.{chartTold, endsTold}
+use Rattle.chart.specs.ChartOutcome as chart-outcome
+use Rattle.chart.specs.EndsOutcome as ends-outcome
+use Rattle.marks.specs.Told.{marksTold}
+use Rattle.marks.specs.Marks.{MarkIs, marked, unmarked}
+use Rattle.marks.specs.Outcome as marks-outcome
+use Rattle.demands.specs.Question.{Input, Query, chart, ends, marks, Result, Allowed}
+use Rattle.demands.specs.TurnedDown.{AllRight}
+use Rattle.demands.specs.Demands.{Reports, Derives, DerivedAre, IsSecret, flagged, covered, MarksToken, ShowsEnds, Demand2}
+use Rattle.demands.proofs.AllRight.{given-is}
+use Rattle.demands.proofs.Ending.{all-right, ending}
+use Rattle.demands.proofs.Demand1.{not-refused, fills-passed, work-for}
+
+module _ {G : Grammar} {x : Input} {q : Query} {r : Result q} (report : Reports G x q r) where
+  abbrev same : grammarGiven (x .grammar) ≡ G
+  same = given-is (report .grammar)
+
+  -- all that is looked at before the filling is right
+  pub reports-right : AllRight G x q
+  reports-right = rw same at (all-right x q (fills-passed x q r (ending x q r (report .allowed)) (report .fills)))
+
+  -- a line that passes has classes for tokens
+  line-tokens : Tokens (x .line)
+  line-tokens = record { below = λ t h. omega (arith, reports-right .line .tokens t h, report .grammar .within .classes) }
+
+  -- (A, i, j) is a fact exactly when A rewrites to the tokens of i..j
+  pub fact-derives : (A i j : ℕ) → Fact G (x .line) A i j ↔ Derives G (x .line) A i j
+  fact-derives A i j = textbook line-tokens A i j
+
+  pub reports-work : WorkFilled G (x .line) (x .words) (x .depths) (r .words) (r .depths)
+  reports-work = work-for x q r reports-right (report .allowed)
+
+  facts-derived : (l : List Span) → FactsAre G (x .line) l → DerivedAre G (x .line) l
+  facts-derived l are = record {
+    each = λ s.
+        let f = fact-derives (s .category) (s .start) (s .end) in
+        (λ m. f .0 (are .each s .0 m), λ d. are .each s .1 (f .1 d));
+    ascending = are .ascending;
+  }
+
+  secret-iff : (t : ℕ) → t < length (x .line) → Secret G (x .line) t ↔ IsSecret G (x .line) t
+  secret-iff t l = (there, back)
+    where
+      there : Secret G (x .line) t → IsSecret G (x .line) t
+      there (byClass h e) = flagged e
+      there (byFact {A} {i} {j} e f a b) = covered A i j e (fact-derives A i j .0 f) a b
+
+      back : IsSecret G (x .line) t → Secret G (x .line) t
+      back (flagged e) = byClass l e
+      back (covered A i j e d a b) = byFact e (fact-derives A i j .1 d) a b
+
+  -- a mark is 1 where the token is secret and 0 where it is not
+  marks-token : (t m : ℕ) → t < length (x .line) → MarkIs G (x .line) t m → MarksToken G (x .line) t m
+  marks-token t _ l (marked s) =
+      let i = secret-iff t l .0 s in
+      record { one = (λ e. i, λ h. refl); zero = (λ e. absurd (omega arith), λ n. absurd (n i)) }
+  marks-token t _ l (unmarked n) =
+      let i = secret-iff t l .1 in
+      record { one = (λ e. absurd (omega arith), λ h. absurd (n (i h))); zero = (λ e h. n (i h), λ h. refl) }
+
+-- one thing is told
+pub one-told : {told : Told} {a b : List ℕ} → told ≡ answered a → told ≡ answered b → a ≡ b
+one-told p q = cc
+
+module _ {G : Grammar} {x : Input} where
+  words-derive : {q : Query} {r : Result q} (report : Reports G x q r) (A i j : ℕ) → A < length (G .categories) → i ≤ length (x .line) →
+      Member (getD (r .words) (A * (length (x .line) + 1) + i) 0) j ↔ Derives G (x .line) A i j
+  words-derive report A i j a l =
+      let bit = reports-work report .word A i a l j in
+      let f = fact-derives report A i j in
+      (λ m. f .0 (bit .0 m), λ d. bit .1 (f .1 d))
+
+  facts-counted : {r : Result chart} → Reports G x chart r → (rounds facts : ℕ) → r .told ≡ answered (rounds ∷ facts ∷ []) → (l : List Span) × DerivedAre G (x .line) l × (length l ≡ facts)
+  facts-counted {r} report rounds facts told = go (report .allowed)
+    where
+      go : Allowed x chart r → (l : List Span) × DerivedAre G (x .line) l × (length l ≡ facts)
+      go (answer, tells, chart-outcome.turnedDown e a w d) = absurd (not-refused told (sym tells ∙ ap chartTold a))
+      go (answer, tells, chart-outcome.filled {facts = l} e t m f y) =
+          (l, facts-derived report l (rw (given-is (report .grammar)) at f), let z = one-told (sym tells ∙ t) told in cc)
+
+  ends-shown : {A i : ℕ} {r : Result (ends A i)} → Reports G x (ends A i) r → (row count smallest : ℕ) → r .told ≡ answered (row ∷ count ∷ smallest ∷ []) → ShowsEnds G (x .line) A i row count smallest
+  ends-shown {A} {i} {r} report row count smallest told = go (report .allowed)
+    where
+      go : Allowed x (ends A i) r → ShowsEnds G (x .line) A i row count smallest
+      go (answer, tells, ends-outcome.turnedDown e a w d) = absurd (not-refused told (sym tells ∙ ap endsTold a))
+      go (answer, tells, ends-outcome.found {row = row′} {count = count′} {smallest = smallest′} e t m c f y) =
+          let z = one-told (sym tells ∙ t) told in
+          let rows : row′ ≡ row = cc in
+          let counts : count′ ≡ count = cc in
+          let firsts : smallest′ ≡ smallest = cc in
+          let bits = rw (given-is (report .grammar), rows) at m in
+          record {
+            each = λ j. let d = fact-derives report A i j in (λ b. d .0 (bits j .0 b), λ h. bits j .1 (d .1 h));
+            counted = sym counts ∙ c ∙ ap (countBelow 64) rows;
+            first = rw (rows, firsts) at f;
+          }
+
+  marks-right : {row : List ℕ} {r : Result (marks row)} → Reports G x (marks row) r → (secret : ℕ) → r .told ≡ answered (secret ∷ []) →
+      (t : ℕ) → t < length (x .line) → MarksToken G (x .line) t (getD (r .row) t 0)
+  marks-right {row} {r} report secret told t l = go (report .allowed)
+    where
+      go : Allowed x (marks row) r → MarksToken G (x .line) t (getD (r .row) t 0)
+      go (answer, tells, marks-outcome.turnedDown e a w d m) = absurd (not-refused told (sym tells ∙ ap marksTold a))
+      go (answer, tells, marks-outcome.noRoom e k a y m) = absurd (not-refused told (sym tells ∙ ap marksTold a))
+      go (answer, tells, marks-outcome.answered e u y are) = marks-token report t _ l (rw (given-is (report .grammar)) at (are .mark t l))
+
+pub demand-2 : Demand2
+demand-2 = record { words = words-derive; facts = facts-counted; ends = ends-shown; marks = marks-right }
