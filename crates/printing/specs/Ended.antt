@@ -15,12 +15,12 @@ wroteEach row [] = row
 wroteEach row (piece ∷ others) = wroteEach (wrote row 0 piece) others
 
 pub record Ended (input row row′ : List ℕ) (end : Progress) : Type 0 where
+  -- where the last piece asked for was written, it is the last of all
+  pub whole : end .written ≡ true → end .asked ≡ length (pieces input)
   -- a first piece is asked for, and none past the last
   pub some : 0 < end .asked
   pub within : end .asked ≤ length (pieces input)
-  -- where the last one asked for was written, it is the last of all
-  pub whole : end .written ≡ true → end .asked ≡ length (pieces input)
-  -- whether another follows is told
+  -- whether another would follow
   pub more : end .more ≡ ltb (end .asked) (length (pieces input))
   -- the pieces asked for were written into the row, in their order
   pub holds : row′ ≡ wroteEach row (take (end .asked) (pieces input))

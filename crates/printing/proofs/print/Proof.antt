@@ -28,7 +28,7 @@ Inv-loop input out₀ progress₀ out progress =
 abbrev μ-loop : tie.MeasureT-loop
 μ-loop input out₀ progress₀ out progress = length (pieces input) - progress .asked
 
--- a turn of the loop: there was a piece to ask for, it is the one that was written, and the row is as long as before
+-- a turn of the loop: there is a piece to ask for, and the row then holds it too
 there : (c : tie.After-print-next Inv-loop μ-loop) → c .before .before .before .loop .progress .asked < length (pieces (c .before .before .before .before .before .before .args .input .now))
 there c = ltb-true _ _ (sym (c .before .before .before .loop .inv .2) ∙ c .before .before .loop-test .taken)
 
@@ -57,9 +57,9 @@ returns : tie.Need-returns Inv-loop μ-loop
 returns c =
     let turn = c .before .before .before .before in
     record {
+      whole = λ written. absurd (true≢false (sym written ∙ not-true _ (c .if1 .taken)));
       some = omega (arith, turn .print-next .ensures .0);
       within = omega (arith, there turn, turn .print-next .ensures .0);
-      whole = λ written. absurd (true≢false (sym written ∙ not-true _ (c .if1 .taken)));
       more = turn .print-next .ensures .1 .0;
       holds = row-is turn;
     }
@@ -81,9 +81,9 @@ returns-2 c =
     let input = c .before .before .before .before .args .input .now in
     let last = ltb-false (c .before .loop .progress .asked) (length (pieces input)) (sym (inv .2) ∙ c .loop-test .left) in
     record {
+      whole = λ written. omega (arith, last, inv .1);
       some = omega (arith, last, pieces-some input);
       within = inv .1;
-      whole = λ written. omega (arith, last, inv .1);
       more = inv .2;
       holds = inv .3;
     }
