@@ -3,7 +3,7 @@ use Prim.Native.Nat.{ℕ, zero, suc, _+_, _-_, _≤_, _<_}
 use mathlib.Core.Path.{_≡_, refl, ap, _∙_}
 use mathlib.Core.Logic.{_↔_}
 use mathlib.Core.Bool.{Bool, true, false, cond}
-use mathlib.Core.List.{List}
+use mathlib.Core.List.{List, []}
 use native.Mathlib.Nat.{mul-le-mul, lt-of-not-le}
 use native.Mathlib.Decide.{decLe, decLt}
 use native.Mathlib.Omega.{arith}
@@ -16,6 +16,7 @@ use Rattle.refusals.specs.declared.Refusal.the-variants.{LineTooLong, TokenNoCl
 use Rattle.refusals.specs.declared.Check.{Check}
 use Rattle.refusals.specs.declared.Check.the-variants.{Passed, Refused}
 use Rattle.refusals.specs.Order.{andThen, Checks, early, late, reported}
+use Rattle.refusals.specs.Told.{Told, answered, refused, checkTold}
 use Rattle.checks.specs.Line.{IsLine, FirstNoClass, LineOutcome, tooLong, badToken, isLine, tokensFrom, lineCheck}
 use Rattle.checks.specs.Question.{refuseIf, startCheck, spanCheck}
 use Rattle.checks.specs.Memory.{chartSize, depthsSize, chartCheck, depthsCheck, workCheck}
@@ -62,6 +63,11 @@ one-refusal p q = cc
 
 pub not-both : {c : Check} {r : Refusal} → c ≡ Refused r → c ≡ Passed → ⊥
 not-both p q = let z : _≡_ {A = ℕ} 0 1 = cc in omega arith
+
+-- a check that tells no refusal passes
+told-passed : (c : Check) → checkTold c ≡ answered [] → c ≡ Passed
+told-passed Passed e = refl
+told-passed (Refused refusal) e = absurd (let z : _≡_ {A = ℕ} 0 1 = cc in omega arith)
 
 -- a check that passes has no fault
 pub no-fault : (fault : Bool) (refusal : Refusal) → refuseIf fault refusal ≡ Passed → fault ≡ false
@@ -126,41 +132,41 @@ module _ (classes : ℕ) (line : List ℕ) where
       go (no l) (yes m) = absurd (omega (arith, y .noClass, x .first u m))
       go (no l) (no m) = omega (arith, lt-of-not-le l, lt-of-not-le m)
 
-  -- the check computes what `LineOutcome` says
+  -- the check tells what `LineOutcome` says
   tokens-outcome :
-      (left t : ℕ) → t + left ≡ length line → length line ≤ 63 → ((k : ℕ) → k < t → getD line k 0 < classes) → LineOutcome classes line (tokensFrom classes line left t)
+      (left t : ℕ) → t + left ≡ length line → length line ≤ 63 → ((k : ℕ) → k < t → getD line k 0 < classes) → LineOutcome classes line (checkTold (tokensFrom classes line left t))
   unfolding tokensFrom
   tokens-outcome zero t e short good = isLine (record { short = short; tokens = λ k h. good k (omega arith) })
   tokens-outcome (suc left) t e short good = go (ltb (getD line t 0) classes) refl (λ more. tokens-outcome left (t + 1) (omega arith) short more)
     where
       Next : Type 0
-      Next = ((k : ℕ) → k < t + 1 → getD line k 0 < classes) → LineOutcome classes line (tokensFrom classes line left (t + 1))
+      Next = ((k : ℕ) → k < t + 1 → getD line k 0 < classes) → LineOutcome classes line (checkTold (tokensFrom classes line left (t + 1)))
 
-      go : (ok : Bool) → ltb (getD line t 0) classes ≡ ok → Next → LineOutcome classes line (cond (ltb (getD line t 0) classes) (tokensFrom classes line left (t + 1)) (Refused (TokenNoClass t)))
+      go : (ok : Bool) → ltb (getD line t 0) classes ≡ ok → Next → LineOutcome classes line (checkTold (cond (ltb (getD line t 0) classes) (tokensFrom classes line left (t + 1)) (Refused (TokenNoClass t))))
       go true q next = rw q (next (below-more (λ k. getD line k 0 < classes) t good (ltb-true (getD line t 0) classes q)))
       go false q next = rw q (badToken {t = t} short (record { inside = omega arith; noClass = ltb-false (getD line t 0) classes q; first = good }))
 
-  pub line-outcome : LineOutcome classes line (lineCheck classes line)
+  pub line-outcome : LineOutcome classes line (checkTold (lineCheck classes line))
   line-outcome = go (decLe (length line) 63)
     where
-      go : Dec (length line ≤ 63) → LineOutcome classes line (lineCheck classes line)
+      go : Dec (length line ≤ 63) → LineOutcome classes line (checkTold (lineCheck classes line))
       go (yes h) = rw (line-short h) (tokens-outcome (length line - 0) 0 (omega arith) h (λ k l. absurd (omega arith)))
       go (no h) = let l = lt-of-not-le h in rw (line-long l) (tooLong l)
 
   -- and nothing else
-  pub outcome-unique : {a b : Check} → LineOutcome classes line a → LineOutcome classes line b → a ≡ b
+  pub outcome-unique : {a b : Told} → LineOutcome classes line a → LineOutcome classes line b → a ≡ b
   outcome-unique (tooLong h) (tooLong k) = refl
   outcome-unique (tooLong h) (badToken k y) = absurd (omega arith)
   outcome-unique (tooLong h) (isLine y) = absurd (omega (arith, y .short))
   outcome-unique (badToken h x) (tooLong k) = absurd (omega arith)
-  outcome-unique (badToken {t = t} h x) (badToken {t = u} k y) = ap (λ (t : ℕ). Refused (TokenNoClass t)) (first-one t u x y)
+  outcome-unique (badToken {t = t} h x) (badToken {t = u} k y) = ap (λ (t : ℕ). refused (record { number = 7; place = t })) (first-one t u x y)
   outcome-unique (badToken h x) (isLine y) = absurd (omega (arith, x .noClass, y .tokens _ (x .inside)))
   outcome-unique (isLine x) (tooLong k) = absurd (omega (arith, x .short))
   outcome-unique (isLine x) (badToken k y) = absurd (omega (arith, y .noClass, x .tokens _ (y .inside)))
   outcome-unique (isLine x) (isLine y) = refl
 
   pub line-passed : (lineCheck classes line ≡ Passed) ↔ IsLine classes line
-  line-passed = (λ e. passed (rw e at line-outcome), λ l. outcome-unique line-outcome (isLine l))
+  line-passed = (λ e. passed (rw e at line-outcome), λ l. told-passed (lineCheck classes line) (outcome-unique line-outcome (isLine l)))
     where
-      passed : LineOutcome classes line Passed → IsLine classes line
+      passed : LineOutcome classes line (answered []) → IsLine classes line
       passed (isLine l) = l

@@ -11,9 +11,8 @@ use lib.ListN.{length, getD, take, drop, length-append, length-map, length-drop}
 use lib.Seq.{take-all, getD-drop}
 use lib.Dec.{ltb}
 use borrow.Author.Tests.{lt-ltb, le-ltb}
-use Rattle.refusals.specs.declared.Check.{Check}
-use Rattle.refusals.specs.declared.Check.the-variants as check
 use Rattle.refusals.specs.Order.{reported}
+use Rattle.refusals.specs.Told.{Told, answered, refused, checkTold}
 use Rattle.derivation.specs.FactList.{Span}
 use Rattle.grammar.specs.Given.{grammarGiven}
 use Rattle.grammar.specs.Reading.{byte}
@@ -33,11 +32,11 @@ use Rattle.report.proofs.JobLaws.{JobRead, job-read, questions-count}
 -- there is a first piece
 chart-some : (g line : List ℕ) (questions : List Span) → 0 < length (chartPieces g line questions)
 unfolding chartPieces answerPieces
-chart-some g line questions = go (reported (chartChecks g line lentWords lentDepths))
+chart-some g line questions = go (checkTold (reported (chartChecks g line lentWords lentDepths)))
   where
-    go : (c : Check) → 0 < length (unlessRefused c (answerPieces g line questions))
-    go (check.Refused refusal) = omega arith
-    go check.Passed = omega arith
+    go : (t : Told) → 0 < length (unlessRefused t (answerPieces g line questions))
+    go (refused row) = omega arith
+    go (answered values) = omega arith
 
 pub pieces-some : (input : List ℕ) → 0 < length (pieces input)
 unfolding pieces
@@ -137,11 +136,11 @@ questions-read input job read at e =
 -- there are few pieces
 chart-few : (g line : List ℕ) (questions : List Span) → length questions ≤ 4096 → length (chartPieces g line questions) ≤ 4098
 unfolding chartPieces answerPieces
-chart-few g line questions h = go (reported (chartChecks g line lentWords lentDepths))
+chart-few g line questions h = go (checkTold (reported (chartChecks g line lentWords lentDepths)))
   where
-    go : (c : Check) → length (unlessRefused c (answerPieces g line questions)) ≤ 4098
-    go (check.Refused refusal) = omega arith
-    go check.Passed = omega (arith, length-map questions (treeLines g line))
+    go : (t : Told) → length (unlessRefused t (answerPieces g line questions)) ≤ 4098
+    go (refused row) = omega arith
+    go (answered values) = omega (arith, length-map questions (treeLines g line))
 
 pub pieces-few : (input : List ℕ) → length (pieces input) ≤ 4098
 unfolding pieces

@@ -61,6 +61,11 @@ grammarRead input grammar = unlessShort input (lineAt grammar) (lineRead input g
 unfoldable pub jobOf : List ℕ → JobReading
 jobOf input = cond (ltb 4096 (length input)) (badlyFormed 4096) (unlessShort input 2 (grammarRead input (grammarCount input)))
 
+-- the job that was read; of a refused one nothing
+abbrev pub jobIn : JobReading → Job
+jobIn (Read job) = job
+jobIn (Refused refusal) = record { grammar = 0; line = 0; questions = 0 }
+
 -- the three parts of a job that was read
 abbrev pub grammarPart : List ℕ → Job → List ℕ
 grammarPart input job = take (job .grammar) (drop 2 input)

@@ -4,10 +4,9 @@ use mathlib.Core.List.{List, [], _∷_, _++_, map, flatten}
 use lib.ListN.{length, replicate}
 use lib.Dec.{ltb}
 use mathlib.Core.Bool.{not}
-use Rattle.refusals.specs.declared.Refusal.{Refusal}
 use Rattle.refusals.specs.declared.Check.{Check}
-use Rattle.refusals.specs.declared.Check.the-variants as check
-use Rattle.refusals.specs.Row.{rowOf}
+use Rattle.refusals.specs.declared.Row.{Row}
+use Rattle.refusals.specs.Told.{Told, answered, refused, checkTold}
 use Rattle.refusals.specs.declared.Refusal.the-variants.{TreeOfNoFact, TreeTooSmall}
 use Rattle.refusals.specs.Order.{andThen, early, reported}
 use Rattle.derivation.specs.Grammar.{Grammar}
@@ -25,8 +24,8 @@ use Rattle.checks.specs.Question.{refuseIf}
 use Rattle.tree.specs.Bytes.{bytes}
 use Rattle.tree.specs.Checks.{treeChecks}
 use Rattle.report.specs.declared.job.JobReading.{JobReading}
-use Rattle.report.specs.declared.job.JobReading.the-variants.{Read, Refused}
-use Rattle.report.specs.Job.{jobOf, grammarPart, linePart, questionsPart}
+use Rattle.report.specs.Job.{jobOf, jobIn, grammarPart, linePart, questionsPart}
+use Rattle.report.specs.Told.{jobTold}
 use Rattle.lines.specs.Lines.{numbered, roundsAndFacts, marksOf}
 
 -- the program lends 512 words, 16,384 depths and 4,096 tree bytes
@@ -40,8 +39,8 @@ unfoldable pub lentTree : List ℕ
 lentTree = replicate 4096 0
 
 -- refused number place
-unfoldable pub refusedLine : Refusal → List ℕ
-refusedLine refusal = numbered "refused" (rowOf refusal .number ∷ rowOf refusal .place ∷ [])
+unfoldable pub refusedLine : Row → List ℕ
+refusedLine row = numbered "refused" (row .number ∷ row .place ∷ [])
 
 module _ (G : Grammar) (line : List ℕ) where
   -- rounds R facts F
@@ -71,10 +70,10 @@ treeVerdict g line A i j words depths out =
     (andThen (refuseIf (not (facts (grammarGiven g) line A i j)) TreeOfNoFact)
     (refuseIf (ltb (length out) (length (bytes (shown (grammarGiven g) line A i j)))) TreeTooSmall))
 
--- a refusal's line in place of these, or else these
-abbrev pub unlessRefused : Check → List (List ℕ) → List (List ℕ)
-unlessRefused (check.Refused refusal) these = refusedLine refusal ∷ []
-unlessRefused check.Passed these = these
+-- where a refusal is told, its line in place of these
+abbrev pub unlessRefused : Told → List (List ℕ) → List (List ℕ)
+unlessRefused (refused row) these = refusedLine row ∷ []
+unlessRefused (answered values) these = these
 
 module _ (g line : List ℕ) where
   -- tree A i j, and a line for each node shown for this fact, or the refusal in place of the nodes
@@ -82,7 +81,7 @@ module _ (g line : List ℕ) where
   treeLines q =
       numbered "tree" (spanNumbers q)
       ++ flatten
-      (unlessRefused (treeVerdict g line (q .category) (q .start) (q .end) lentWords lentDepths lentTree)
+      (unlessRefused (checkTold (treeVerdict g line (q .category) (q .start) (q .end) lentWords lentDepths lentTree))
       (map nodeLine (shown (grammarGiven g) line (q .category) (q .start) (q .end))))
 
   -- the piece of rounds and facts with each fact, that of the marks, and one for each question
@@ -94,12 +93,13 @@ module _ (g line : List ℕ) where
 
   -- the chart's refusal as the only piece, or else the answers
   unfoldable pub chartPieces : List Span → List (List ℕ)
-  chartPieces questions = unlessRefused (reported (chartChecks g line lentWords lentDepths)) (answerPieces questions)
+  chartPieces questions = unlessRefused (checkTold (reported (chartChecks g line lentWords lentDepths))) (answerPieces questions)
 
 -- the job's refusal as the only piece, or else what its chart leads to
 abbrev pub jobPieces : List ℕ → JobReading → List (List ℕ)
-jobPieces input (Refused refusal) = refusedLine refusal ∷ []
-jobPieces input (Read job) = chartPieces (grammarPart input job) (linePart input job) (questionsPart input job)
+jobPieces input reading =
+    let job = jobIn reading in
+    unlessRefused (jobTold reading) (chartPieces (grammarPart input job) (linePart input job) (questionsPart input job))
 
 -- what is printed, piece by piece
 unfoldable pub pieces : List ℕ → List (List ℕ)

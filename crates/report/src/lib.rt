@@ -2,6 +2,7 @@
 ghost use Prim.Native.Nat.{_≤_};
 ghost use lib.ListN.{length};
 ghost use mathlib.Core.List.{_∷_, []};
+ghost use Rattle.refusals.specs.Row.{rowOf};
 ghost use Rattle.report.specs.Job.{questionsOf};
 ghost use Rattle.report.specs.inner.Checked.{JobPasses};
 ghost use Rattle.report.specs.Printed.{refusedLine, answerPieces, chartPieces, pieces};
@@ -30,7 +31,7 @@ pub struct Piece {
 // A refusal is the only piece.
 fn refused_piece(refusal: Refusal, number: usize, out: &mut [u8]) -> Piece
     requires { ⌜ 475200 ≤ length (now out) ⌝ }
-    ensures { λ r. ⌜ Yielded (refusedLine refusal ∷ []) number (now (out .entry)) (now (out .exit)) r ⌝ }
+    ensures { λ r. ⌜ Yielded (refusedLine (rowOf refusal) ∷ []) number (now (out .entry)) (now (out .exit)) r ⌝ }
 {
     if number != 0 {
         return Piece {

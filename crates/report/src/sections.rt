@@ -2,6 +2,7 @@
 ghost use mathlib.Core.List.{_++_};
 ghost use Prim.Native.Nat.{_+_, _≤_};
 ghost use lib.ListN.{length};
+ghost use Rattle.refusals.specs.Row.{rowOf};
 ghost use Rattle.grammar.specs.declared.reading.Sections.{Sections};
 ghost use Rattle.grammar.specs.Given.{grammarGiven};
 ghost use Rattle.lines.specs.inner.Stored.{Stored};
@@ -21,7 +22,7 @@ use tree::TreeAnswer;
 // Writes a refusal's line.
 pub fn refused_line(out: &mut [u8], at: usize, refusal: Refusal) -> usize
     requires { ⌜ at + 64 ≤ length (now out) ⌝ }
-    ensures { λ r. ⌜ Stored (now (out .entry)) at (refusedLine refusal) (now (out .exit)) r × (r ≤ at + 64) ⌝ }
+    ensures { λ r. ⌜ Stored (now (out .entry)) at (refusedLine (rowOf refusal)) (now (out .exit)) r × (r ≤ at + 64) ⌝ }
 {
     let row = row_of(refusal);
     let numbers = [row.number as usize, row.place];

@@ -1,60 +1,92 @@
--- `printing::print` meets its contract. The loop's invariant: piece `number` is there. The measure is how many are left.
+-- `printing::print` meets its contract. The loop's invariant: every piece asked for was written. The measure is how many are left.
 use borrow.Author.Needs.{needs}
 use native.Mathlib.Omega.{arith}
-use Prim.Native.Nat.{_-_, _<_}
-use mathlib.Core.Path.{_≡_, refl, sym, _∙_}
+use Prim.Native.Nat.{ℕ, _-_, _≤_, _<_}
+use mathlib.Core.Path.{_≡_, refl, sym, _∙_, ap}
+use mathlib.Core.Bool.{true, true≢false}
+use mathlib.Core.List.{List, []}
 use native.Mathlib.Numerals.{add-one}
-use lib.ListN.{length}
-use lib.Seq.{length-take-le}
-use borrow.Author.Tests.{ltb-true}
+use lib.ListN.{length, getD, take}
+use lib.Dec.{ltb}
+use borrow.Author.Tests.{lt-ltb, ltb-true, ltb-false, not-true, not-false}
+use Rattle.tree.specs.Bytes.{wrote}
 use Rattle.report.specs.Printed.{pieces}
-use Rattle.report.proofs.PieceLaws.{pieces-some, pieces-few, yielded-within}
+use Rattle.report.proofs.PieceLaws.{pieces-some}
+use Rattle.printing.specs.Ended.{wroteEach}
+use Rattle.printing.proofs.Laws.{wrote-next}
 use Rattle.printing.proofs.print.Statement.{statement}
 use Rattle.printing.proofs.print.Tie as tie
 
 abbrev Inv-loop : tie.InvT-loop
-Inv-loop input out₀ number₀ out number = (number < length (pieces input)) × (length out ≡ length out₀)
+Inv-loop input out₀ progress₀ out progress =
+    (progress .written ≡ true)
+    × (progress .asked ≤ length (pieces input))
+    × (progress .more ≡ ltb (progress .asked) (length (pieces input)))
+    × (out ≡ wroteEach out₀ (take (progress .asked) (pieces input)))
+    × (length out ≡ length out₀)
 
 abbrev μ-loop : tie.MeasureT-loop
-μ-loop input out₀ number₀ out number = length (pieces input) - number
+μ-loop input out₀ progress₀ out progress = length (pieces input) - progress .asked
+
+-- a turn of the loop: there is a piece to ask for, and the row then holds it too
+there : (c : tie.After-print-next Inv-loop μ-loop) → c .before .before .before .loop .progress .asked < length (pieces (c .before .before .before .before .before .before .args .input .now))
+there c = ltb-true _ _ (sym (c .before .before .before .loop .inv .2) ∙ c .before .before .loop-test .taken)
+
+row-is :
+    (c : tie.After-print-next Inv-loop μ-loop) →
+    let a = c .before .before .before .before .before .before .args in
+    c .print-next .last .1 .1 .0 ≡ wroteEach (a .out .now) (take (c .print-next .result .asked) (pieces (a .input .now)))
+row-is c =
+    let a = c .before .before .before .before .before .before .args in
+    let before = c .before .before .before .loop in
+    let next = c .print-next .ensures in
+    let piece = getD (pieces (a .input .now)) (before .progress .asked) [] in
+    rw (next .0, add-one) (next .1 .1 ∙ ap (λ (row : List ℕ). wrote row 0 piece) (before .inv .3) ∙ wrote-next _ _ _ (there c))
 
 loop-holds : tie.Need-loop-holds Inv-loop μ-loop
-loop-holds c = (pieces-some (c .before .before .args .input .now), refl)
+unfolding wroteEach
+loop-holds c = let some = pieces-some (c .before .before .args .input .now) in (refl, omega arith, sym (lt-ltb _ _ some), refl, refl)
 
-write-piece-requires : tie.Need-write-piece-requires Inv-loop μ-loop
-write-piece-requires c κs = omega arith
-
-slice-reshare-prefix-write-all : tie.Need-slice-reshare-prefix-write-all Inv-loop μ-loop
-slice-reshare-prefix-write-all c = yielded-within (c .before .before .write-piece .ensures)
-
-slice-aggregate-write-all : tie.Need-slice-aggregate-write-all Inv-loop μ-loop
-slice-aggregate-write-all c = sym (length-take-le _ _ (yielded-within (c .before .before .before .write-piece .ensures)))
-
-write-all-requires : tie.Need-write-all-requires Inv-loop μ-loop
-write-all-requires c κs = search needs
+print-next-requires : tie.Need-print-next-requires Inv-loop μ-loop
+print-next-requires c κs = let inv = c .before .before .loop .inv in (omega (arith, inv .4), (ltb-true _ _ (sym (inv .2) ∙ c .before .loop-test .taken), inv .0))
 
 same-length : tie.Need-same-length Inv-loop μ-loop
-same-length c = omega arith
+same-length c = search needs
 
 returns : tie.Need-returns Inv-loop μ-loop
-returns c = search needs
-
-add-number : tie.Need-add-number Inv-loop μ-loop
-add-number c = let start = c .before .before .before .before .before .before .before .before .before .before .before in omega (arith, pieces-few (start .args .input .now))
+returns c =
+    let turn = c .before .before .before .before in
+    record {
+      whole = λ written. absurd (true≢false (sym written ∙ not-true _ (c .if1 .taken)));
+      some = omega (arith, turn .print-next .ensures .0);
+      within = omega (arith, there turn, turn .print-next .ensures .0);
+      more = turn .print-next .ensures .1 .0;
+      holds = row-is turn;
+    }
 
 loop-less : tie.Need-loop-less Inv-loop μ-loop
-loop-less c = omega arith
+loop-less c = let turn = c .before .before .before .before in omega (arith, there turn, turn .print-next .ensures .0)
 
 loop-again : tie.Need-loop-again Inv-loop μ-loop
 loop-again c =
-    let written = c .before .before .before .before .before .before in
-    (rw add-one (ltb-true _ _ (sym (written .write-piece .ensures .more) ∙ c .if2 .taken)), omega arith)
+    let turn = c .before .before .before .before in
+    (not-false _ (c .if1 .left), omega (arith, there turn, turn .print-next .ensures .0), turn .print-next .ensures .1 .0, row-is turn, omega arith)
 
 same-length-2 : tie.Need-same-length-2 Inv-loop μ-loop
-same-length-2 c = omega arith
+same-length-2 c = search needs
 
 returns-2 : tie.Need-returns-2 Inv-loop μ-loop
-returns-2 c = search needs
+returns-2 c =
+    let inv = c .before .loop .inv in
+    let input = c .before .before .before .before .args .input .now in
+    let last = ltb-false (c .before .loop .progress .asked) (length (pieces input)) (sym (inv .2) ∙ c .loop-test .left) in
+    record {
+      whole = λ written. omega (arith, last, inv .1);
+      some = omega (arith, last, pieces-some input);
+      within = inv .1;
+      more = inv .2;
+      holds = inv .3;
+    }
 
 pub print-spec : {M : Type 1} → statement M
 print-spec =
@@ -63,13 +95,9 @@ print-spec =
     Inv-loop
     μ-loop
     loop-holds
-    write-piece-requires
-    slice-reshare-prefix-write-all
-    slice-aggregate-write-all
-    write-all-requires
+    print-next-requires
     same-length
     returns
-    add-number
     loop-less
     loop-again
     same-length-2

@@ -6,6 +6,7 @@ use mathlib.Core.Path.{_≡_, refl, sym}
 use mathlib.Core.Bool.{false}
 use mathlib.Core.List.{[], _∷_}
 use borrow.Author.Tests.{le-ltb}
+use Rattle.refusals.specs.Row.{rowOf}
 use Rattle.report.specs.Printed.{refusedLine}
 use Rattle.report.proofs.PieceLaws.{piece-stored, piece-none, none-after-one}
 use Rattle.report.proofs.refused_piece.Statement.{statement}
@@ -15,7 +16,7 @@ returns : tie.Need-returns
 returns c =
     let a = c .before .before .args in
     let past : 0 < a .number = omega arith in
-    piece-none (refusedLine (a .refusal) ∷ []) (a .number) false (sym (le-ltb (suc (a .number)) 1 (omega arith))) (none-after-one (refusedLine (a .refusal)) (a .number) past)
+    piece-none (refusedLine (rowOf (a .refusal)) ∷ []) (a .number) false (sym (le-ltb (suc (a .number)) 1 (omega arith))) (none-after-one (refusedLine (rowOf (a .refusal))) (a .number) past)
 
 refused-line-requires : tie.Need-refused-line-requires
 refused-line-requires c κs = omega (arith, c .before .before .before .pre)
@@ -27,7 +28,7 @@ returns-2 : tie.Need-returns-2
 returns-2 c =
     let a = c .before .before .before .before .before .before .args in
     let e : a .number ≡ 0 = omega arith in
-    rw e (piece-stored (refusedLine (a .refusal) ∷ []) 0 false refl (refusedLine (a .refusal)) refl (c .before .before .refused-line .ensures .0))
+    rw e (piece-stored (refusedLine (rowOf (a .refusal)) ∷ []) 0 false refl (refusedLine (rowOf (a .refusal))) refl (c .before .before .refused-line .ensures .0))
 
 pub refused-piece-spec : {M : Type 1} → statement M
 refused-piece-spec = tie.close (tie.spec returns refused-line-requires same-length returns-2)

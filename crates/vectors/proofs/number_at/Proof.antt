@@ -22,6 +22,9 @@ with-digit-requires c κs = search needs
 add-next : tie.Need-add-next Inv-loop μ-loop
 add-next c = search needs
 
+returns : tie.Need-returns Inv-loop μ-loop
+returns c = search needs
+
 loop-holds : tie.Need-loop-holds Inv-loop μ-loop
 loop-holds c = record { further = omega arith; within = omega arith }
 
@@ -31,8 +34,8 @@ shared-slice-read-with-digit-2 c = search needs
 with-digit-requires-2 : tie.Need-with-digit-requires-2 Inv-loop μ-loop
 with-digit-requires-2 c κs = search needs
 
-returns : tie.Need-returns Inv-loop μ-loop
-returns c = search needs
+returns-2 : tie.Need-returns-2 Inv-loop μ-loop
+returns-2 c = search needs
 
 add-next-2 : tie.Need-add-next-2 Inv-loop μ-loop
 add-next-2 c = search needs
@@ -43,8 +46,8 @@ loop-less c = omega arith
 loop-again : tie.Need-loop-again Inv-loop μ-loop
 loop-again c = record { further = omega arith; within = omega arith }
 
-returns-2 : tie.Need-returns-2 Inv-loop μ-loop
-returns-2 c = c .before .loop .inv
+returns-3 : tie.Need-returns-3 Inv-loop μ-loop
+returns-3 c = c .before .loop .inv
 
 pub number-at-spec : {M : Type 1} → statement M
 number-at-spec =
@@ -55,11 +58,12 @@ number-at-spec =
     shared-slice-read-with-digit
     with-digit-requires
     add-next
+    returns
     loop-holds
     shared-slice-read-with-digit-2
     with-digit-requires-2
-    returns
+    returns-2
     add-next-2
     loop-less
     loop-again
-    returns-2)
+    returns-3)

@@ -19,8 +19,14 @@ loop-holds c = (omega arith, refl, omega arith)
 number-at-requires : tie.Need-number-at-requires Inv-loop μ-loop
 number-at-requires c κs = search needs
 
+same-length : tie.Need-same-length Inv-loop μ-loop
+same-length c = search needs
+
+returns : tie.Need-returns Inv-loop μ-loop
+returns c = search needs
+
 put-number-requires : tie.Need-put-number-requires Inv-loop μ-loop
-put-number-requires c κs = c .before .before .before .loop .inv .0
+put-number-requires c κs = c .before .before .before .before .before .loop .inv .0
 
 loop-less : tie.Need-loop-less Inv-loop μ-loop
 loop-less c = omega arith
@@ -28,11 +34,11 @@ loop-less c = omega arith
 loop-again : tie.Need-loop-again Inv-loop μ-loop
 loop-again c = (c .before .before .put-number .ensures, omega arith, omega arith)
 
-same-length : tie.Need-same-length Inv-loop μ-loop
-same-length c = c .before .loop .inv .1
+same-length-2 : tie.Need-same-length-2 Inv-loop μ-loop
+same-length-2 c = c .before .loop .inv .1
 
-returns : tie.Need-returns Inv-loop μ-loop
-returns c = c .before .loop .inv .0
+returns-2 : tie.Need-returns-2 Inv-loop μ-loop
+returns-2 c = c .before .loop .inv .0
 
 pub read-numbers-spec : {M : Type 1} → statement M
 read-numbers-spec =
@@ -42,8 +48,10 @@ read-numbers-spec =
     μ-loop
     loop-holds
     number-at-requires
+    same-length
+    returns
     put-number-requires
     loop-less
     loop-again
-    same-length
-    returns)
+    same-length-2
+    returns-2)

@@ -47,14 +47,11 @@ part-read-numbers-end c = search needs
 read-numbers-requires : tie.Need-read-numbers-requires
 read-numbers-requires c κs = search needs
 
-slice-reshare-prefix-print : tie.Need-slice-reshare-prefix-print
-slice-reshare-prefix-print c = search needs
+slice-aggregate-write-all-2 : tie.Need-slice-aggregate-write-all-2
+slice-aggregate-write-all-2 c = search needs
 
-slice-aggregate-print : tie.Need-slice-aggregate-print
-slice-aggregate-print c = sym (length-take-le _ _ (c .before .before .before .read-numbers .ensures))
-
-print-requires : tie.Need-print-requires
-print-requires c κs = search needs
+write-all-requires-3 : tie.Need-write-all-requires-3
+write-all-requires-3 c κs = search needs
 
 add-result-2 : tie.Need-add-result-2
 add-result-2 c = search needs
@@ -62,11 +59,29 @@ add-result-2 c = search needs
 same-length : tie.Need-same-length
 same-length c = search needs
 
+returns-2 : tie.Need-returns-2
+returns-2 c = search needs
+
+slice-reshare-prefix-print : tie.Need-slice-reshare-prefix-print
+slice-reshare-prefix-print c = search needs
+
+slice-aggregate-print : tie.Need-slice-aggregate-print
+slice-aggregate-print c = sym (length-take-le _ _ (c .before .before .before .before .before .read-numbers .ensures))
+
+print-requires : tie.Need-print-requires
+print-requires c κs = search needs
+
+add-result-3 : tie.Need-add-result-3
+add-result-3 c = search needs
+
 same-length-2 : tie.Need-same-length-2
 same-length-2 c = search needs
 
-returns-2 : tie.Need-returns-2
-returns-2 c = search needs
+same-length-3 : tie.Need-same-length-3
+same-length-3 c = search needs
+
+returns-3 : tie.Need-returns-3
+returns-3 c = search needs
 
 pub run-line-spec : {M : Type 1} → statement M
 run-line-spec =
@@ -86,10 +101,15 @@ run-line-spec =
     part-read-numbers-start
     part-read-numbers-end
     read-numbers-requires
+    slice-aggregate-write-all-2
+    write-all-requires-3
+    add-result-2
+    same-length
+    returns-2
     slice-reshare-prefix-print
     slice-aggregate-print
     print-requires
-    add-result-2
-    same-length
+    add-result-3
     same-length-2
-    returns-2)
+    same-length-3
+    returns-3)
