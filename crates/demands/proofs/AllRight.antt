@@ -1,15 +1,14 @@
 -- All that is looked at before the filling is right exactly where the question's first checks pass.
-use Prim.Native.Nat.{ℕ, _≤_, _<_}
+use Prim.Native.Nat.{ℕ, _≤_}
 use mathlib.Core.Path.{_≡_, refl, sym, _∙_}
 use mathlib.Core.List.{List}
-use native.Mathlib.Omega.{arith}
 use lib.ListN.{length}
 use borrow.Author.Tests.{le-ltb}
 use Rattle.refusals.specs.declared.Check.{Check}
 use Rattle.refusals.specs.declared.Check.the-variants as check
 use Rattle.refusals.specs.Order.{early}
 use Rattle.derivation.specs.Grammar.{Grammar}
-use Rattle.checks.specs.Line.{IsLine, lineCheck}
+use Rattle.checks.specs.Line.{lineCheck}
 use Rattle.checks.specs.Question.{askedCheck}
 use Rattle.checks.specs.Memory.{chartSize, depthsSize, workCheck}
 use Rattle.checks.proofs.Laws.{both-passed, not-both, line-passed}
@@ -18,7 +17,7 @@ use Rattle.grammar.specs.declared.reading.Reading.{Reading}
 use Rattle.grammar.specs.declared.reading.Reading.the-variants.{Accepted, Refused}
 use Rattle.grammar.specs.Reading.{readOf}
 use Rattle.grammar.specs.Value.{grammarOf}
-use Rattle.grammar.specs.Given.{checkOf, sectionsIn, grammarGiven}
+use Rattle.grammar.specs.Given.{grammarGiven}
 use Rattle.grammar.proofs.Accepted.{accepted}
 use Rattle.grammar.proofs.Encoded.{class-count, category-count, accepted-encodes}
 use Rattle.grammar.proofs.Encoding.{accepted-iff, value-read}
@@ -40,13 +39,15 @@ encodes-read {G} {g} e =
     let a = accepted-iff g .1 (G, e .within, e .encoding) in
     let s = a .0 in
     let same = value-read g s G (a .1) (e .encoding) (e .within) in
-    let whole = accepted g s (a .1) .0 in
-    (s, record {
-      read = a .1;
-      value = same;
-      classes = sym (class-count g s whole) ∙ rw same;
-      categories = sym (category-count g s whole) ∙ rw same;
-    })
+    let whole = accepted g s (a .1) .0 in (
+      s,
+      record {
+        read = a .1;
+        value = same;
+        classes = sym (class-count g s whole) ∙ rw same;
+        categories = sym (category-count g s whole) ∙ rw same;
+      },
+    )
 
 pub read-encodes : {g : List ℕ} {s : Sections} → readOf g ≡ Accepted s → Encodes (grammarOf g s) g
 read-encodes {g} {s} e = let a = accepted-encodes g s e in record { within = a .0; encoding = a .1 }

@@ -1,5 +1,5 @@
 -- How a question ends: turned down before the filling, turned down after it, or with an answer.
-use Prim.Native.Nat.{ℕ, _≤_, _<_}
+use Prim.Native.Nat.{ℕ, _≤_}
 use mathlib.Core.Path.{_≡_, refl, sym, ap, _∙_}
 use mathlib.Core.List.{List}
 use native.Mathlib.Omega.{arith}
@@ -15,8 +15,7 @@ use Rattle.refusals.specs.Order.{andThen}
 use Rattle.checks.specs.Question.{refuseIf}
 use Rattle.refusals.specs.Row.{rowOf}
 use Rattle.refusals.specs.Told.{answered, refused}
-use Rattle.derivation.specs.Grammar.{Grammar}
-use Rattle.checks.proofs.Laws.{both-passed, not-both, reported-passed}
+use Rattle.checks.proofs.Laws.{reported-passed}
 use Rattle.grammar.specs.Given.{grammarGiven}
 use Rattle.filling.specs.Filled.{WorkFilled}
 use Rattle.chart.specs.Told.{chartTold, endsTold}

@@ -87,8 +87,7 @@ module _ (x : Input) {words′ depths′ : List ℕ} (filled : WorkFilled (gramm
     ends-exists : (A i : ℕ) → first x (ends A i) ≡ check.Passed → (r : Result (ends A i)) × Allowed x (ends A i) r
     ends-exists A i e =
         let a = all-right x (ends A i) e .asked in
-        let row = getD words′ (A * (length (x .line) + 1) + i) 0 in
-        (
+        let row = getD words′ (A * (length (x .line) + 1) + i) 0 in (
           record { told = answered (row ∷ countBelow 64 row ∷ trailingZeros 64 row ∷ []); words = words′; depths = depths′; row = tt },
           (ends-answer.Row row (countBelow 64 row) (trailingZeros 64 row), refl, ends-outcome.found (rw e) refl (filled .word A i (a 0 (omega arith) .category refl) (a 1 (omega arith) .start refl)) refl (first-trailing row) filled),
         )
@@ -112,8 +111,7 @@ module _ (x : Input) {words′ depths′ : List ℕ} (filled : WorkFilled (gramm
     marks-exists row e (no l) =
         let room : length (x .line) ≤ length row = omega arith in
         let new = overwritten (computed.marks G (x .line)) row in
-        let secret = total (λ t. getD new t 0) (length (x .line)) in
-        (
+        let secret = total (λ t. getD new t 0) (length (x .line)) in (
           record { told = answered (secret ∷ []); words = words′; depths = depths′; row = new },
           (marks-answer.Marked secret, refl, marks-outcome.answered (rw (e, le-ltb (length row) (length (x .line)) room)) refl filled (marks-are row room)),
         )
@@ -137,14 +135,12 @@ module _ (x : Input) {words′ depths′ : List ℕ} (filled : WorkFilled (gramm
 
     forest-exists : (rows : List Branch) → first x (forest rows) ≡ check.Passed → Dec (length rows < length (computed-forest.forest G (x .line))) → (r : Result (forest rows)) × Allowed x (forest rows) r
     forest-exists rows e (yes l) =
-        let records = computed-forest.forest G (x .line) in
-        (
+        let records = computed-forest.forest G (x .line) in (
           record { told = refused (rowOf (ForestTooSmall (length records))); words = words′; depths = depths′; row = rows },
           (forest-answer.Refused (ForestTooSmall (length records)), refl, forest-outcome.noRoom e (forest-is proper) l refl filled refl),
         )
     forest-exists rows e (no l) =
-        let records = computed-forest.forest G (x .line) in
-        (
+        let records = computed-forest.forest G (x .line) in (
           record { told = answered (length records ∷ []); words = words′; depths = depths′; row = map recordOf records ++ drop (length records) rows },
           (forest-answer.Records (length records), refl, forest-outcome.answered e (forest-is proper) (omega arith) refl filled refl),
         )

@@ -1,13 +1,13 @@
 -- Work memory that is large enough can be filled: words and depths that hold the chart of a line exist.
 use Prim.Native.Nat.{ℕ, zero, suc, _+_, _*_, _/_, _%_, _^_, _≤_, _<_}
-use mathlib.Core.Path.{_≡_, refl, sym, ap, _∙_}
+use mathlib.Core.Path.{_≡_, refl, sym, _∙_}
 use mathlib.Core.Logic.{_↔_, _⊎_, inl, inr}
 use mathlib.Core.Bool.{Bool, true, false, cond, true≢false}
 use mathlib.Core.List.{List}
 use native.Mathlib.Nat.{div-add-mod', mod-lt}
 use native.Mathlib.Decide.{decLt}
 use native.Mathlib.Omega.{arith}
-use lib.ListN.{length, getD}
+use lib.ListN.{length}
 use lib.Bits.{bitOr}
 use Rattle.positions.specs.Member.{Member}
 use Rattle.positions.proofs.Members.{none-member, one-member, or-member}
@@ -81,16 +81,19 @@ module _ (G : Grammar) (line words depths : List ℕ) (proper : Proper G) where
       (words′ : List ℕ) × (depths′ : List ℕ) × WorkFilled G line words depths words′ depths′
   filled-exists w d =
       let size = chartSize (length (G .categories)) (length line) in
-      let size′ = depthsSize (length (G .categories)) (length line) in
-      (overwritten (listed wordFor 0 size) words, overwritten (listed depthFor 0 size′) depths, record {
-        words-long = listed-long wordFor size words w;
-        word = λ A i a l j. rw (listed-at wordFor size words (A * width + i) (row-inside A (length (G .categories)) width i a (omega arith))) (word-for A i l j);
-        words-past = listed-past wordFor size words;
-        depths-long = listed-long depthFor size′ depths d;
-        depth = λ A i j a l k.
-            let row = row-inside A (length (G .categories)) width i a (omega arith) in
-            let p = found-again (A * width + i) width j (omega arith) in
-            let r = found-again A width i (omega arith) in
-            rw (listed-at depthFor size′ depths ((A * width + i) * width + j) (row-inside (A * width + i) size width j row (omega arith)), p .0, p .1, r .0, r .1) (depthOf-is G line proper A i j);
-        depths-past = listed-past depthFor size′ depths;
-      })
+      let size′ = depthsSize (length (G .categories)) (length line) in (
+        overwritten (listed wordFor 0 size) words,
+        overwritten (listed depthFor 0 size′) depths,
+        record {
+          words-long = listed-long wordFor size words w;
+          word = λ A i a l j. rw (listed-at wordFor size words (A * width + i) (row-inside A (length (G .categories)) width i a (omega arith))) (word-for A i l j);
+          words-past = listed-past wordFor size words;
+          depths-long = listed-long depthFor size′ depths d;
+          depth = λ A i j a l k.
+              let row = row-inside A (length (G .categories)) width i a (omega arith) in
+              let p = found-again (A * width + i) width j (omega arith) in
+              let r = found-again A width i (omega arith) in
+              rw (listed-at depthFor size′ depths ((A * width + i) * width + j) (row-inside (A * width + i) size width j row (omega arith)), p .0, p .1, r .0, r .1) (depthOf-is G line proper A i j);
+          depths-past = listed-past depthFor size′ depths;
+        },
+      )

@@ -6,6 +6,8 @@ pub mod Ending
 pub mod Late
 pub mod Filling
 pub mod Exists
-pub mod Demand1
-pub mod Demand2
-pub mod Demand3
+pub mod Outcomes
+pub mod Reported
+pub mod Least
+pub mod Printed
+pub mod Demands

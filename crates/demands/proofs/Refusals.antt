@@ -1,26 +1,24 @@
 -- A question is turned down exactly as the document's table says.
 use Prim.Native.Nat.{ℕ, _≤_, _<_}
-use mathlib.Core.Path.{_≡_, refl, sym, ap, _∙_}
-use mathlib.Core.Logic.{_↔_}
+use mathlib.Core.Path.{_≡_, refl}
 use mathlib.Core.List.{List}
 use native.Mathlib.Nat.{lt-of-not-le}
 use native.Mathlib.Decide.{decLe}
 use native.Mathlib.Omega.{arith}
 use lib.ListN.{length}
-use borrow.Author.Tests.{lt-ltb, le-ltb}
 use Rattle.refusals.specs.declared.Refusal.{Refusal}
-use Rattle.refusals.specs.declared.Refusal.the-variants.{ChartTooSmall, DepthsTooSmall, LineTooLong, TokenNoClass}
+use Rattle.refusals.specs.declared.Refusal.the-variants.{ChartTooSmall, DepthsTooSmall}
 use Rattle.refusals.specs.declared.Row.{Row}
 use Rattle.refusals.specs.declared.Check.{Check}
 use Rattle.refusals.specs.declared.Check.the-variants as check
 use Rattle.refusals.specs.Row.{rowOf}
 use Rattle.refusals.specs.Order.{early}
-use Rattle.refusals.specs.Told.{answered, refused}
+use Rattle.refusals.specs.Told.{Told, refused, checkTold}
 use Rattle.derivation.specs.Grammar.{Grammar}
-use Rattle.checks.specs.Line.{IsLine, FirstNoClass, LineOutcome, tooLong, badToken, isLine, lineCheck}
+use Rattle.checks.specs.Line.{IsLine, LineOutcome, tooLong, badToken, isLine, lineCheck}
 use Rattle.checks.specs.Question.{askedCheck}
-use Rattle.checks.specs.Memory.{chartSize, depthsSize, workCheck}
-use Rattle.checks.proofs.Laws.{one-refusal, not-both, line-outcome, outcome-unique, line-long, line-passed, too-small, large-enough}
+use Rattle.checks.specs.Memory.{chartSize, depthsSize}
+use Rattle.checks.proofs.Laws.{one-refusal, not-both, line-outcome, outcome-unique, line-passed, too-small, large-enough}
 use Rattle.grammar.specs.declared.reading.Sections.{Sections}
 use Rattle.grammar.specs.declared.reading.Reading.{Reading}
 use Rattle.grammar.specs.declared.reading.Reading.the-variants.{Accepted, Refused}
@@ -31,12 +29,12 @@ use Rattle.grammar.specs.Beginning.{NextByte, countBetween, flagByte, leftOf, s
 use Rattle.grammar.proofs.Refusals.{refused-iff}
 use Rattle.grammar.proofs.Accepted.{accepted}
 use Rattle.grammar.proofs.Encoded.{class-count, category-count}
-use Rattle.chart.specs.Checks.{checksOf, depthCheck}
-use Rattle.chart.proofs.CheckLaws.{Passes, depth-passes, grammar-is, early-passed}
+use Rattle.chart.specs.Checks.{checksOf}
+use Rattle.chart.proofs.CheckLaws.{early-passed}
 use Rattle.demands.specs.Question.{Input, Query, numbers}
-use Rattle.demands.specs.TurnedDown.{by, Encodes, FirstWrong, AllRight, TurnedDown, grammarWrong, lineTooLong, tokenNoClass, numberWrong, wordsTooFew, depthsTooFew, treeOfNoFact, marksTooSmall, forestTooSmall, treeTooSmall}
+use Rattle.demands.specs.TurnedDown.{by, Encodes, FirstWrong, AllRight, TurnedDown, grammarWrong, lineTooLong, tokenNoClass, numberWrong, wordsTooFew, depthsTooFew}
 use Rattle.demands.proofs.Right.{askedOf, AllNumbers, numbers-wrong, numbers-right, right-numbers, wrong-numbers}
-use Rattle.demands.proofs.AllRight.{ReadAs, encodes-read, read-encodes, PassesFor, right-passes, work-right}
+use Rattle.demands.proofs.AllRight.{ReadAs, encodes-read, read-encodes, right-passes, work-right}
 
 -- what is reported of a question before the filling
 abbrev pub first : Input → Query → Check
@@ -73,13 +71,12 @@ module _ (x : Input) (q : Query) where
     abbrev read : ReadAs G (x .grammar) s
     read = encodes-read e .1
 
-    pub long-turned : 63 < length (x .line) → TurnedEarly (by 6 63)
-    long-turned l = (LineTooLong, rw (read .read, line-long (s .classes) (x .line) l), refl)
-
-    pub token-turned : {t : ℕ} → length (x .line) ≤ 63 → FirstNoClass (length (G .classes)) (x .line) t → TurnedEarly (by 7 t)
-    token-turned {t} short f =
-        let is : lineCheck (s .classes) (x .line) ≡ check.Refused (TokenNoClass t) = outcome-unique (s .classes) (x .line) (line-outcome (s .classes) (x .line)) (badToken short (rw (read .classes) f)) in
-        (TokenNoClass t, rw (read .read, is), refl)
+    pub line-turned : {row : Row} → LineOutcome (length (G .classes)) (x .line) (refused row) → TurnedEarly row
+    line-turned {row} o = go (lineCheck (s .classes) (x .line)) refl (outcome-unique (s .classes) (x .line) {b = refused row} (line-outcome (s .classes) (x .line)) (rw (read .classes) o))
+      where
+        go : (c : Check) → lineCheck (s .classes) (x .line) ≡ c → checkTold c ≡ refused row → TurnedEarly row
+        go check.Passed is h = absurd (let z : _≡_ {A = ℕ} 0 1 = cc in omega arith)
+        go (check.Refused refusal) is h = (refusal, rw (read .read, is), cc)
 
     module _ (line : IsLine (length (G .classes)) (x .line)) where
       line-right : lineCheck (s .classes) (x .line) ≡ check.Passed
@@ -148,16 +145,20 @@ module _ (x : Input) (q : Query) where
             same {other = other} (rw (read, line, is)) (rw (f .2) (numberWrong {q = q} {place = f .0} (read-encodes read) (rw classes l) (rw categories (f .1)), omega arith))
         numbers-listed check.Passed is = memory-listed is (decLe _ _) (decLe _ _)
 
-      line-listed : (c : Check) → lineCheck (s .classes) (x .line) ≡ c → LineOutcome (s .classes) (x .line) c → Listed refusal
-      line-listed _ is (tooLong l) = same {other = LineTooLong} (rw (read, is)) (lineTooLong (read-encodes read) l, omega arith)
-      line-listed _ is (badToken {t = t} short f) = same {other = TokenNoClass t} (rw (read, is)) (tokenNoClass (read-encodes read) short (rw classes f), omega arith)
-      line-listed _ is (isLine l) = numbers-listed l _ refl
+      told-listed : (told : Told) → LineOutcome (s .classes) (x .line) told → {row : Row} → told ≡ refused row → TurnedDown x q row × (row .number ≤ 9)
+      told-listed _ (tooLong l) {row} h = let z : row ≡ by 6 63 = cc in rw z (lineTooLong (read-encodes read) l, omega arith)
+      told-listed _ (badToken {t = t} short f) {row} h = let z : row ≡ by 7 t = cc in rw z (tokenNoClass {q = q} {t = t} (read-encodes read) short (rw classes f), omega arith)
+      told-listed _ (isLine l) h = absurd (let z : _≡_ {A = ℕ} 0 1 = cc in omega arith)
+
+      line-listed : (c : Check) → lineCheck (s .classes) (x .line) ≡ c → Listed refusal
+      line-listed (check.Refused other) is = same {other = other} (rw (read, is)) (told-listed _ (line-outcome (s .classes) (x .line)) (rw is))
+      line-listed check.Passed is = numbers-listed (line-passed (s .classes) (x .line) .0 is) _ refl
 
     grammar-listed : (r : Reading) → readOf (x .grammar) ≡ r → Listed refusal
     grammar-listed (Refused other) read =
         let w = refused-iff (x .grammar) (rowOf other) .0 (rw read) in
         same {other = other} (rw read) (grammarWrong w, grammar-number w)
-    grammar-listed (Accepted s) read = line-listed s read _ refl (line-outcome (s .classes) (x .line))
+    grammar-listed (Accepted s) read = line-listed s read _ refl
 
     pub early-listed : TurnedDown x q (rowOf refusal) × (rowOf refusal .number ≤ 9)
     early-listed = grammar-listed _ refl

@@ -1,8 +1,8 @@
 -- The user's three demands, each a statement over the results that the questions' own outcomes allow.
 use Prim.Native.Nat.{ℕ, _+_, _*_, _-_, _≤_, _<_}
 use mathlib.Core.Path.{_≡_}
-use mathlib.Core.Logic.{_↔_, _⊎_}
-use mathlib.Core.List.{List, [], _∷_, _++_, List·Memᴰ, map}
+use mathlib.Core.Logic.{_↔_}
+use mathlib.Core.List.{List, [], _∷_, _++_, map}
 use lib.ListN.{length, getD, drop}
 use Rattle.refusals.specs.declared.Row.{Row}
 use Rattle.refusals.specs.Told.{Told, answered, refused}
@@ -13,9 +13,8 @@ use Rattle.derivation.specs.Grammar.{Grammar}
 use Rattle.derivation.specs.Tree.{Tree, height}
 use Rattle.derivation.specs.Fact.{Fact}
 use Rattle.derivation.specs.Depth.{Depth}
-use Rattle.derivation.specs.Rewriting.{Rewrites, stretch}
-use Rattle.derivation.specs.Ascending.{Ascending}
-use Rattle.derivation.specs.FactList.{Span, spanNumbers}
+use Rattle.derivation.specs.FactList.{Span}
+use Rattle.derivation.specs.computed.FactCount.{total}
 use Rattle.derivation.specs.Rounds.{RoundsIs}
 use Rattle.derivation.specs.Branch.{BranchValue, ForestIs}
 use Rattle.derivation.specs.Node.{preorder}
@@ -24,8 +23,14 @@ use Rattle.checks.specs.Memory.{chartSize, depthsSize}
 use Rattle.tree.specs.Bytes.{bytes}
 use Rattle.forest.specs.declared.Branch.{Branch}
 use Rattle.forest.specs.Record.{recordOf}
+use Rattle.report.specs.declared.job.Job.{Job}
+use Rattle.report.specs.declared.job.JobReading.the-variants.{Read}
+use Rattle.report.specs.Job.{jobOf, questionsPart}
+use Rattle.report.specs.Printed.{refusedLine, printed}
 use Rattle.demands.specs.Question.{Input, Query, chart, ends, marks, tree, forest, rowBefore, Result, Allowed}
 use Rattle.demands.specs.TurnedDown.{Encodes, AllRight, TurnedDown}
+use Rattle.demands.specs.Textbook.{Derives, DerivedAre, MarksToken}
+use Rattle.demands.specs.Prints.{jobInput, PrintsAnswers}
 
 -- past its first entries, as many as `size`, memory is as it was
 pub record KeptPast (size : ℕ) (before after : List ℕ) : Type 0 where
@@ -42,18 +47,24 @@ pub record Demand1 : Type 0 where
   -- whatever is handed in, one result is allowed, and no other
   pub one : (x : Input) (q : Query) → (r : Result q) × Allowed x q r × ((s : Result q) → Allowed x q s → s ≡ r)
   -- a question is turned down exactly as the document's table says, by number and place
-  pub refusals : (x : Input) (q : Query) (r : Result q) → Allowed x q r → (row : Row) → (r .told ≡ refused row) ↔ TurnedDown x q row
-  -- after 1 to 9 all lent memory is as it was
-  pub unchanged : (x : Input) (q : Query) (r : Result q) → Allowed x q r → (row : Row) → r .told ≡ refused row → row .number ≤ 9 →
-      (r .words ≡ x .words) × (r .depths ≡ x .depths) × (r .row ≡ rowBefore q)
-  -- after 10 and 11 the row that is lent for marks, nodes or records is as it was
-  pub late : (x : Input) (q : Query) (r : Result q) → Allowed x q r → (row : Row) → r .told ≡ refused row → r .row ≡ rowBefore q
-  -- the work memory is filled exactly when all that is looked at before is right
-  pub fills : (x : Input) (q : Query) (r : Result q) → Allowed x q r → Fills (r .told) ↔ ((G : Grammar) × AllRight G x q)
+  pub refusals : (x : Input) (q : Query) (r : Result q) → Allowed x q r →
+      (row : Row) → (r .told ≡ refused row) ↔ TurnedDown x q row
+  -- after any refusal the row that is lent for marks, nodes or records is as it was
+  pub row : (x : Input) (q : Query) (r : Result q) → Allowed x q r →
+      (row : Row) → r .told ≡ refused row → r .row ≡ rowBefore q
+  -- after 1 to 9 the work memory is as it was, too
+  pub work : (x : Input) (q : Query) (r : Result q) → Allowed x q r →
+      (row : Row) → r .told ≡ refused row → row .number ≤ 9 → (r .words ≡ x .words) × (r .depths ≡ x .depths)
+  -- it is filled exactly when all that is looked at before is right
+  pub fills : (x : Input) (q : Query) (r : Result q) → Allowed x q r →
+      Fills (r .told) ↔ ((G : Grammar) × AllRight G x q)
   -- and past the chart and the depths of the line it is then as it was
   pub past : (x : Input) (q : Query) (r : Result q) → Allowed x q r → (G : Grammar) → AllRight G x q →
       KeptPast (chartSize (length (G .categories)) (length (x .line))) (x .words) (r .words)
       × KeptPast (depthsSize (length (G .categories)) (length (x .line))) (x .depths) (r .depths)
+  -- of a job that was read, the program prints a refusal of grammar, line or memory as the only line
+  pub output : (input : List ℕ) (job : Job) → jobOf input ≡ Read job →
+      (row : Row) → TurnedDown (jobInput input job) chart row → printed input ≡ refusedLine row
 
 -- a question on x that filled the work memory ends with r; G is the grammar
 pub record Reports (G : Grammar) (x : Input) (q : Query) (r : Result q) : Type 0 where
@@ -61,30 +72,17 @@ pub record Reports (G : Grammar) (x : Input) (q : Query) (r : Result q) : Type 0
   pub allowed : Allowed x q r
   pub fills : Fills (r .told)
 
--- the category A rewrites to the tokens of i..j
-abbrev pub Derives : Grammar → List ℕ → (A i j : ℕ) → Type 0
-Derives G line A i j = (i ≤ j) × (j ≤ length line) × Rewrites G ((128 + A) ∷ []) (stretch line i j)
-
--- l lists all (A, i, j) such that A rewrites to the tokens of i..j, ascending, each once
-pub record DerivedAre (G : Grammar) (line : List ℕ) (l : List Span) : Type 0 where
-  pub each : (s : Span) → List·Memᴰ s l ↔ Derives G line (s .category) (s .start) (s .end)
-  pub ascending : Ascending spanNumbers l
-
--- the class of token t is flagged, or a secret category rewrites to a stretch that covers it
-pub data IsSecret (G : Grammar) (line : List ℕ) (t : ℕ) : Type 0 where
-  flagged : getD (G .classes) (getD line t 0) 0 ≡ 1 → IsSecret G line t
-  covered : (A i j : ℕ) → getD (G .categories) A 0 ≡ 1 → Derives G line A i j → i ≤ t → t < j → IsSecret G line t
-
--- a mark of token t is 1 where it is secret, and 0 where it is not
-pub record MarksToken (G : Grammar) (line : List ℕ) (t mark : ℕ) : Type 0 where
-  pub one : (mark ≡ 1) ↔ IsSecret G line t
-  pub zero : (mark ≡ 0) ↔ ¬ IsSecret G line t
-
 -- a row that shows exactly the ends of A from i, how many they are, and the smallest
 pub record ShowsEnds (G : Grammar) (line : List ℕ) (A i row count smallest : ℕ) : Type 0 where
   pub each : (j : ℕ) → Member row j ↔ Derives G line A i j
   pub counted : count ≡ countBelow 64 row
   pub first : First row smallest
+
+-- a mark for each token, all past them as it was, and the number of ones
+pub record ShowsMarks (G : Grammar) (line : List ℕ) (secret : ℕ) (row row′ : List ℕ) : Type 0 where
+  pub each : (t : ℕ) → t < length line → MarksToken G line t (getD row′ t 0)
+  pub past : KeptPast (length line) row row′
+  pub counted : secret ≡ total (λ t. getD row′ t 0) (length line)
 
 -- Demand 2. A category is reported from one place to another exactly when the grammar derives those tokens from it, in the textbook sense.
 pub record Demand2 : Type 0 where
@@ -103,7 +101,10 @@ pub record Demand2 : Type 0 where
   -- Marks writes a mark for each token: 1 exactly where it is secret
   pub marks : {G : Grammar} {x : Input} {row : List ℕ} {r : Result (marks row)} → Reports G x (marks row) r →
       (secret : ℕ) → r .told ≡ answered (secret ∷ []) →
-      (t : ℕ) → t < length (x .line) → MarksToken G (x .line) t (getD (r .row) t 0)
+      ShowsMarks G (x .line) secret row (r .row)
+  -- of such a job, the program prints the facts, the marks and, for each question, the tree or the refusal
+  pub output : (input : List ℕ) (job : Job) → jobOf input ≡ Read job →
+      {G : Grammar} → AllRight G (jobInput input job) chart → PrintsAnswers G (jobInput input job) (questionsPart input job) (printed input)
 
 -- the number kept for (A, i, j)
 abbrev pub depthKept : List ℕ → List ℕ → (A i j : ℕ) → ℕ

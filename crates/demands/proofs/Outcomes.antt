@@ -1,42 +1,32 @@
--- Demand 1 holds: one result for every input, refusals as the table says, and what memory then holds.
-use Prim.Native.Nat.{ℕ, _≤_, _<_}
+-- One result for every input, refusals as the table says, and what memory then holds.
+use Prim.Native.Nat.{ℕ, _≤_}
 use mathlib.Core.Path.{_≡_, refl, sym, ap, _∙_}
-use mathlib.Core.Logic.{_↔_}
 use mathlib.Core.List.{List}
 use native.Mathlib.Omega.{arith}
-use lib.ListN.{length}
-use borrow.Author.Tests.{lt-ltb}
-use Rattle.refusals.specs.declared.Refusal.{Refusal}
 use Rattle.refusals.specs.declared.Row.{Row}
 use Rattle.refusals.specs.declared.Check.the-variants as check
 use Rattle.refusals.specs.Row.{rowOf}
 use Rattle.refusals.specs.Told.{Told, answered, refused}
 use Rattle.derivation.specs.Grammar.{Grammar}
-use Rattle.derivation.specs.Node.{NodeValue, preorder}
-use Rattle.derivation.proofs.Choice.{chosen-unique}
-use Rattle.derivation.proofs.Forest.{forest-unique}
+use Rattle.checks.specs.Line.{tooLong, badToken}
 use Rattle.checks.proofs.Laws.{one-refusal, not-both}
-use Rattle.grammar.specs.Given.{grammarGiven}
 use Rattle.filling.specs.Filled.{WorkFilled}
 use Rattle.chart.specs.Told.{chartTold, endsTold}
-use Rattle.chart.proofs.CheckLaws.{grammar-is}
 use Rattle.chart.proofs.Unique.{chart-outcome-unique, ends-outcome-unique}
 use Rattle.marks.specs.Told.{marksTold}
 use Rattle.marks.proofs.Unique.{marks-outcome-unique}
 use Rattle.tree.specs.Told.{treeTold}
-use Rattle.tree.specs.Bytes.{bytes}
 use Rattle.tree.proofs.Unique.{tree-outcome-unique}
 use Rattle.forest.specs.Told.{forestTold}
 use Rattle.forest.proofs.Unique.{forest-outcome-unique}
 use Rattle.demands.specs.Question.{Input, Query, chart, ends, marks, tree, forest, rowBefore, Result, Allowed}
-use Rattle.demands.specs.TurnedDown.{Encodes, AllRight, TurnedDown, grammarWrong, lineTooLong, tokenNoClass, numberWrong, wordsTooFew, depthsTooFew, treeOfNoFact, marksTooSmall, forestTooSmall, treeTooSmall}
-use Rattle.demands.specs.Demands.{Fills, answers, late, KeptPast, Demand1}
+use Rattle.demands.specs.TurnedDown.{AllRight, TurnedDown, grammarWrong, lineTooLong, tokenNoClass, numberWrong, wordsTooFew, depthsTooFew, treeOfNoFact, marksTooSmall, forestTooSmall, treeTooSmall}
+use Rattle.demands.specs.Demands.{Fills, answers, late}
 use Rattle.demands.proofs.AllRight.{given-is}
-use Rattle.demands.proofs.Refusals.{first, TurnedEarly, grammar-turned, long-turned, token-turned, number-turned, words-turned, depths-turned, right-passed, early-listed}
-use Rattle.demands.proofs.Ending.{Worked, Ending, before, after, all-right, ending}
+use Rattle.demands.proofs.Refusals.{first, TurnedEarly, grammar-turned, line-turned, number-turned, words-turned, depths-turned, right-passed, early-listed}
+use Rattle.demands.proofs.Ending.{Worked, Ending, before, after, ending}
 use Rattle.demands.proofs.Ending as ends-by
 use Rattle.demands.proofs.Late.{marks-told, no-fact-told, tree-told, forest-told}
-use Rattle.demands.proofs.Exists.{result-exists}
 
 -- an answer is no refusal
 pub not-refused : {told : Told} {values : List ℕ} {row : Row} → told ≡ answered values → told ≡ refused row → ⊥
@@ -49,7 +39,7 @@ one-row p q = cc
 same-result : {q : Query} {a b : Result q} → a .told ≡ b .told → a .words ≡ b .words → a .depths ≡ b .depths → a .row ≡ b .row → a ≡ b
 same-result t w d r = λ i. record { told = t i; words = w i; depths = d i; row = r i }
 
-result-unique : (x : Input) (q : Query) (a b : Result q) → Allowed x q a → Allowed x q b → a ≡ b
+pub result-unique : (x : Input) (q : Query) (a b : Result q) → Allowed x q a → Allowed x q b → a ≡ b
 result-unique x chart a b (p, t, o) (p′, t′, o′) =
     let e = chart-outcome-unique (x .grammar) (x .line) (x .words) (x .depths) o o′ in
     same-result (sym t ∙ ap chartTold (e .0) ∙ t′) (e .1) (e .2) refl
@@ -67,17 +57,17 @@ result-unique x (forest rows) a b (p, t, o) (p′, t′, o′) =
     same-result (sym t ∙ ap forestTold (e .0) ∙ t′) (e .1) (e .2) (e .3)
 
 module _ (x : Input) (q : Query) (r : Result q) where
-  told-listed : Ending x q r → (row : Row) → r .told ≡ refused row → TurnedDown x q row
+  pub told-listed : Ending x q r → (row : Row) → r .told ≡ refused row → TurnedDown x q row
   told-listed (before refusal e t w d m) row h = rw (one-row h t) (early-listed x q refusal e .0)
   told-listed (after other e t down n y m) row h = rw (one-row h t) down
   told-listed (ends-by.answers values e t y) row h = absurd (not-refused t h)
 
-  unchanged : Ending x q r → (row : Row) → r .told ≡ refused row → row .number ≤ 9 → (r .words ≡ x .words) × (r .depths ≡ x .depths) × (r .row ≡ rowBefore q)
-  unchanged (before refusal e t w d m) row h n = (w, d, m)
-  unchanged (after other e t down k y m) row h n = absurd (omega (arith, ap (λ (z : Row). z .number) (one-row h t)))
-  unchanged (ends-by.answers values e t y) row h n = absurd (not-refused t h)
+  pub work-unchanged : Ending x q r → (row : Row) → r .told ≡ refused row → row .number ≤ 9 → (r .words ≡ x .words) × (r .depths ≡ x .depths)
+  work-unchanged (before refusal e t w d m) row h n = (w, d)
+  work-unchanged (after other e t down k y m) row h n = absurd (omega (arith, ap (λ (z : Row). z .number) (one-row h t)))
+  work-unchanged (ends-by.answers values e t y) row h n = absurd (not-refused t h)
 
-  row-unchanged : Ending x q r → (row : Row) → r .told ≡ refused row → r .row ≡ rowBefore q
+  pub row-unchanged : Ending x q r → (row : Row) → r .told ≡ refused row → r .row ≡ rowBefore q
   row-unchanged (before refusal e t w d m) row h = m
   row-unchanged (after other e t down k y m) row h = m
   row-unchanged (ends-by.answers values e t y) row h = absurd (not-refused t h)
@@ -94,7 +84,7 @@ module _ (x : Input) (q : Query) (r : Result q) where
   worked p (after other e t down k y m) = y
   worked p (ends-by.answers values e t y) = y
 
-  right-fills : first x q ≡ check.Passed → Ending x q r → Fills (r .told)
+  pub right-fills : first x q ≡ check.Passed → Ending x q r → Fills (r .told)
   right-fills p (before other e t w d m) = absurd (not-both e p)
   right-fills p (after other e t down k y m) = rw t (late k)
   right-fills p (ends-by.answers values e t y) = rw t answers
@@ -113,10 +103,10 @@ module _ (x : Input) (q : Query) (r : Result q) where
   work-for right a = rw (given-is (right .grammar)) at (worked (right-passed x q right) (ending x q r a))
 
 -- what the table lists is told
-listed-told : (x : Input) {q : Query} (r : Result q) → Allowed x q r → {row : Row} → TurnedDown x q row → r .told ≡ refused row
+pub listed-told : (x : Input) {q : Query} (r : Result q) → Allowed x q r → {row : Row} → TurnedDown x q row → r .told ≡ refused row
 listed-told x {q} r a (grammarWrong w) = early-told x q r (grammar-turned x q w) (ending x q r a)
-listed-told x {q} r a (lineTooLong e l) = early-told x q r (long-turned x q e l) (ending x q r a)
-listed-told x {q} r a (tokenNoClass e l f) = early-told x q r (token-turned x q e l f) (ending x q r a)
+listed-told x {q} r a (lineTooLong e l) = early-told x q r (line-turned x q e (tooLong l)) (ending x q r a)
+listed-told x {q} r a (tokenNoClass e l f) = early-told x q r (line-turned x q e (badToken l f)) (ending x q r a)
 listed-told x {q} r a (numberWrong e l f) = early-told x q r (number-turned x q e l f) (ending x q r a)
 listed-told x {q} r a (wordsTooFew e l n w) = early-told x q r (words-turned x q e l n w) (ending x q r a)
 listed-told x {q} r a (depthsTooFew e l n w d) = early-told x q r (depths-turned x q e l n w d) (ending x q r a)
@@ -124,15 +114,3 @@ listed-told x r a (treeOfNoFact right n) = no-fact-told x _ _ _ _ r right a n
 listed-told x r a (marksTooSmall right l) = marks-told x _ r right a l
 listed-told x r a (forestTooSmall right is l) = forest-told x _ r right a is l
 listed-told x r a (treeTooSmall right t c l) = tree-told x _ _ _ _ r right a (t, c, l)
-
-pub demand-1 : Demand1
-demand-1 = record {
-  one = λ x q. let e = result-exists x q in (e .0, e .1, λ s a. result-unique x q s (e .0) a (e .1));
-  refusals = λ x q r a row. (told-listed x q r (ending x q r a) row, listed-told x r a);
-  unchanged = λ x q r a. unchanged x q r (ending x q r a);
-  late = λ x q r a. row-unchanged x q r (ending x q r a);
-  fills = λ x q r a. (λ f. (grammarGiven (x .grammar), all-right x q (fills-passed x q r (ending x q r a) f)), λ right. right-fills x q r (right-passed x q (right .1)) (ending x q r a));
-  past = λ x q r a G right.
-      let w = work-for x q r right a in
-      (record { long = w .words-long; past = w .words-past }, record { long = w .depths-long; past = w .depths-past });
-}

@@ -1,20 +1,17 @@
--- Demand 3 holds: depths are least heights, the tree shown has that height, rounds is the greatest depth, the forest is the list of the records.
-use Prim.Native.Nat.{ℕ, zero, suc, _+_, _*_, _-_, _≤_, _<_}
+-- Depths are least heights, the tree shown has that height, rounds is the greatest depth, the forest is the list of the records.
+use Prim.Native.Nat.{ℕ, _+_, _-_, _≤_, _<_}
 use mathlib.Core.Path.{_≡_, refl, sym, ap, _∙_}
-use mathlib.Core.List.{List, [], _∷_, _++_, map}
+use mathlib.Core.List.{List, [], _∷_, _++_}
 use native.Mathlib.Omega.{arith}
 use lib.ListN.{length, drop}
 use Rattle.refusals.specs.Told.{answered}
 use Rattle.derivation.specs.Grammar.{Grammar, Proper}
 use Rattle.derivation.specs.Tree.{Tree, height}
-use Rattle.derivation.specs.Fact.{Fact}
 use Rattle.derivation.specs.Depth.{DepthIs, noFact, deep}
 use Rattle.derivation.specs.Rounds.{RoundsIs}
-use Rattle.derivation.specs.Branch.{BranchValue, ForestIs}
 use Rattle.derivation.specs.Node.{preorder}
 use Rattle.derivation.specs.Choice.{Chosen}
 use Rattle.derivation.proofs.Decide.{depth-bound}
-use Rattle.derivation.proofs.Depth.{depth-unique}
 use Rattle.derivation.proofs.Choice.{chosen-height}
 use Rattle.grammar.specs.Given.{grammarGiven}
 use Rattle.chart.specs.Told.{chartTold}
@@ -23,18 +20,17 @@ use Rattle.tree.specs.Told.{treeTold}
 use Rattle.tree.specs.Bytes.{bytes}
 use Rattle.tree.specs.Outcome as tree-outcome
 use Rattle.forest.specs.declared.Branch.{Branch}
-use Rattle.forest.specs.Record.{recordOf}
 use Rattle.forest.specs.Told.{forestTold}
 use Rattle.forest.specs.Outcome as forest-outcome
 use Rattle.demands.specs.Question.{Input, Query, chart, tree, forest, Result, Allowed}
 use Rattle.demands.specs.TurnedDown.{Encodes}
-use Rattle.demands.specs.Demands.{Reports, depthKept, LeastHeight, ShowsTree, ListsRecords, Demand3}
+use Rattle.demands.specs.Demands.{Reports, depthKept, LeastHeight, ShowsTree, ListsRecords}
 use Rattle.demands.proofs.AllRight.{given-is}
-use Rattle.demands.proofs.Demand1.{not-refused}
-use Rattle.demands.proofs.Demand2.{reports-right, reports-work, one-told}
+use Rattle.demands.proofs.Outcomes.{not-refused}
+use Rattle.demands.proofs.Reported.{reports-right, reports-work, one-told}
 
 -- an accepted grammar has the left category of every rule
-encoded-proper : {G : Grammar} {g : List ℕ} → Encodes G g → Proper G
+pub encoded-proper : {G : Grammar} {g : List ℕ} → Encodes G g → Proper G
 encoded-proper e = record { lefts = λ p l. e .within .each p l .left }
 
 least-height : {G : Grammar} {line : List ℕ} {A i j d : ℕ} → Proper G → DepthIs G line A i j d → LeastHeight G line A i j d
@@ -42,11 +38,11 @@ least-height proper (noFact n) = record { least = λ f. absurd (n f); bounded = 
 least-height {G} {line} proper (deep d) = record { least = λ f. d; bounded = depth-bound G line proper d; none = λ m. absurd (m (d .tree)) }
 
 module _ {G : Grammar} {x : Input} where
-  depths-least : {q : Query} {r : Result q} → Reports G x q r → (A i j : ℕ) → A < length (G .categories) → i ≤ length (x .line) → j ≤ length (x .line) →
+  pub depths-least : {q : Query} {r : Result q} → Reports G x q r → (A i j : ℕ) → A < length (G .categories) → i ≤ length (x .line) → j ≤ length (x .line) →
       LeastHeight G (x .line) A i j (depthKept (r .depths) (x .line) A i j)
   depths-least report A i j a l k = least-height (encoded-proper (report .grammar)) (reports-work report .depth A i j a l k)
 
-  rounds-told : {r : Result chart} → Reports G x chart r → (rounds facts : ℕ) → r .told ≡ answered (rounds ∷ facts ∷ []) → RoundsIs G (x .line) rounds
+  pub rounds-told : {r : Result chart} → Reports G x chart r → (rounds facts : ℕ) → r .told ≡ answered (rounds ∷ facts ∷ []) → RoundsIs G (x .line) rounds
   rounds-told {r} report rounds facts told = go (report .allowed)
     where
       go : Allowed x chart r → RoundsIs G (x .line) rounds
@@ -69,14 +65,14 @@ module _ {G : Grammar} {x : Input} where
     shown (answer, tells, tree-outcome.noRoom t e c l a y o) = absurd (not-refused told (sym tells ∙ ap treeTold a))
     shown (answer, tells, tree-outcome.shows t e c l a y o) = (t, c, (let z = one-told (sym tells ∙ a) told in cc), o)
 
-    tree-shown : ShowsTree G (x .line) A i j depth nodes row (r .row)
+    pub tree-shown : ShowsTree G (x .line) A i j depth nodes row (r .row)
     tree-shown =
         let asked = reports-right report .asked in
         let t = rw (given-is (report .grammar)) at (shown (report .allowed)) in
         let least = depths-least report A i j (asked 0 (omega arith) .category refl) (asked 1 (omega arith) .start refl) (asked 2 (omega arith) .end refl .1) .least (t .0) in
         record { tree = t .0; chosen = t .1; high = chosen-height (t .0) (t .1) least; counted = t .2; written = t .3 }
 
-  forest-listed : {rows : List Branch} {r : Result (forest rows)} → Reports G x (forest rows) r → (count : ℕ) → r .told ≡ answered (count ∷ []) → ListsRecords G (x .line) count rows (r .row)
+  pub forest-listed : {rows : List Branch} {r : Result (forest rows)} → Reports G x (forest rows) r → (count : ℕ) → r .told ≡ answered (count ∷ []) → ListsRecords G (x .line) count rows (r .row)
   forest-listed {rows} {r} report count told = go (report .allowed)
     where
       go : Allowed x (forest rows) r → ListsRecords G (x .line) count rows (r .row)
@@ -84,6 +80,3 @@ module _ {G : Grammar} {x : Input} where
       go (answer, tells, forest-outcome.noRoom e is l a y o) = absurd (not-refused told (sym tells ∙ ap forestTold a))
       go (answer, tells, forest-outcome.answered {records = records} e is l a y o) =
           record { records = records; all = rw (given-is (report .grammar)) at is; counted = (let z = one-told (sym tells ∙ a) told in cc); written = o }
-
-pub demand-3 : Demand3
-demand-3 = record { depths = depths-least; tree = tree-shown; rounds = rounds-told; forest = forest-listed }

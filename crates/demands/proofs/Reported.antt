@@ -1,4 +1,4 @@
--- Demand 2 holds: what is reported is what the grammar derives in the textbook sense.
+-- What is reported is what the grammar derives in the textbook sense.
 use Prim.Native.Nat.{ℕ, _+_, _*_, _≤_, _<_}
 use mathlib.Core.Path.{_≡_, refl, sym, ap, _∙_}
 use mathlib.Core.Logic.{_↔_}
@@ -8,7 +8,6 @@ use lib.ListN.{length, getD}
 use Rattle.refusals.specs.Told.{Told, answered}
 use Rattle.positions.specs.Member.{Member}
 use Rattle.positions.specs.Count.{countBelow}
-use Rattle.positions.specs.First.{First}
 use Rattle.derivation.specs.Grammar.{Grammar}
 use Rattle.derivation.specs.Fact.{Fact}
 use Rattle.derivation.specs.Secret.{Secret, byClass, byFact}
@@ -25,10 +24,11 @@ use Rattle.marks.specs.Marks.{MarkIs, marked, unmarked}
 use Rattle.marks.specs.Outcome as marks-outcome
 use Rattle.demands.specs.Question.{Input, Query, chart, ends, marks, Result, Allowed}
 use Rattle.demands.specs.TurnedDown.{AllRight}
-use Rattle.demands.specs.Demands.{Reports, Derives, DerivedAre, IsSecret, flagged, covered, MarksToken, ShowsEnds, Demand2}
+use Rattle.demands.specs.Textbook.{Derives, DerivedAre, IsSecret, flagged, covered, MarksToken}
+use Rattle.demands.specs.Demands.{Reports, ShowsEnds, ShowsMarks}
 use Rattle.demands.proofs.AllRight.{given-is}
 use Rattle.demands.proofs.Ending.{all-right, ending}
-use Rattle.demands.proofs.Demand1.{not-refused, fills-passed, work-for}
+use Rattle.demands.proofs.Outcomes.{not-refused, fills-passed, work-for}
 
 module _ {G : Grammar} {x : Input} {q : Query} {r : Result q} (report : Reports G x q r) where
   abbrev same : grammarGiven (x .grammar) ≡ G
@@ -49,7 +49,7 @@ module _ {G : Grammar} {x : Input} {q : Query} {r : Result q} (report : Reports 
   pub reports-work : WorkFilled G (x .line) (x .words) (x .depths) (r .words) (r .depths)
   reports-work = work-for x q r reports-right (report .allowed)
 
-  facts-derived : (l : List Span) → FactsAre G (x .line) l → DerivedAre G (x .line) l
+  pub facts-derived : (l : List Span) → FactsAre G (x .line) l → DerivedAre G (x .line) l
   facts-derived l are = record {
     each = λ s.
         let f = fact-derives (s .category) (s .start) (s .end) in
@@ -69,7 +69,7 @@ module _ {G : Grammar} {x : Input} {q : Query} {r : Result q} (report : Reports 
       back (covered A i j e d a b) = byFact e (fact-derives A i j .1 d) a b
 
   -- a mark is 1 where the token is secret and 0 where it is not
-  marks-token : (t m : ℕ) → t < length (x .line) → MarkIs G (x .line) t m → MarksToken G (x .line) t m
+  pub marks-token : (t m : ℕ) → t < length (x .line) → MarkIs G (x .line) t m → MarksToken G (x .line) t m
   marks-token t _ l (marked s) =
       let i = secret-iff t l .0 s in
       record { one = (λ e. i, λ h. refl); zero = (λ e. absurd (omega arith), λ n. absurd (n i)) }
@@ -82,14 +82,14 @@ pub one-told : {told : Told} {a b : List ℕ} → told ≡ answered a → told �
 one-told p q = cc
 
 module _ {G : Grammar} {x : Input} where
-  words-derive : {q : Query} {r : Result q} (report : Reports G x q r) (A i j : ℕ) → A < length (G .categories) → i ≤ length (x .line) →
+  pub words-derive : {q : Query} {r : Result q} (report : Reports G x q r) (A i j : ℕ) → A < length (G .categories) → i ≤ length (x .line) →
       Member (getD (r .words) (A * (length (x .line) + 1) + i) 0) j ↔ Derives G (x .line) A i j
   words-derive report A i j a l =
       let bit = reports-work report .word A i a l j in
       let f = fact-derives report A i j in
       (λ m. f .0 (bit .0 m), λ d. bit .1 (f .1 d))
 
-  facts-counted : {r : Result chart} → Reports G x chart r → (rounds facts : ℕ) → r .told ≡ answered (rounds ∷ facts ∷ []) → (l : List Span) × DerivedAre G (x .line) l × (length l ≡ facts)
+  pub facts-counted : {r : Result chart} → Reports G x chart r → (rounds facts : ℕ) → r .told ≡ answered (rounds ∷ facts ∷ []) → (l : List Span) × DerivedAre G (x .line) l × (length l ≡ facts)
   facts-counted {r} report rounds facts told = go (report .allowed)
     where
       go : Allowed x chart r → (l : List Span) × DerivedAre G (x .line) l × (length l ≡ facts)
@@ -97,7 +97,7 @@ module _ {G : Grammar} {x : Input} where
       go (answer, tells, chart-outcome.filled {facts = l} e t m f y) =
           (l, facts-derived report l (rw (given-is (report .grammar)) at f), let z = one-told (sym tells ∙ t) told in cc)
 
-  ends-shown : {A i : ℕ} {r : Result (ends A i)} → Reports G x (ends A i) r → (row count smallest : ℕ) → r .told ≡ answered (row ∷ count ∷ smallest ∷ []) → ShowsEnds G (x .line) A i row count smallest
+  pub ends-shown : {A i : ℕ} {r : Result (ends A i)} → Reports G x (ends A i) r → (row count smallest : ℕ) → r .told ≡ answered (row ∷ count ∷ smallest ∷ []) → ShowsEnds G (x .line) A i row count smallest
   ends-shown {A} {i} {r} report row count smallest told = go (report .allowed)
     where
       go : Allowed x (ends A i) r → ShowsEnds G (x .line) A i row count smallest
@@ -114,14 +114,17 @@ module _ {G : Grammar} {x : Input} where
             first = rw (rows, firsts) at f;
           }
 
-  marks-right : {row : List ℕ} {r : Result (marks row)} → Reports G x (marks row) r → (secret : ℕ) → r .told ≡ answered (secret ∷ []) →
-      (t : ℕ) → t < length (x .line) → MarksToken G (x .line) t (getD (r .row) t 0)
-  marks-right {row} {r} report secret told t l = go (report .allowed)
+  pub marks-right : {row : List ℕ} {r : Result (marks row)} → Reports G x (marks row) r → (secret : ℕ) → r .told ≡ answered (secret ∷ []) → ShowsMarks G (x .line) secret row (r .row)
+  marks-right {row} {r} report secret told = go (report .allowed)
     where
-      go : Allowed x (marks row) r → MarksToken G (x .line) t (getD (r .row) t 0)
+      go : Allowed x (marks row) r → ShowsMarks G (x .line) secret row (r .row)
       go (answer, tells, marks-outcome.turnedDown e a w d m) = absurd (not-refused told (sym tells ∙ ap marksTold a))
       go (answer, tells, marks-outcome.noRoom e k a y m) = absurd (not-refused told (sym tells ∙ ap marksTold a))
-      go (answer, tells, marks-outcome.answered e u y are) = marks-token report t _ l (rw (given-is (report .grammar)) at (are .mark t l))
-
-pub demand-2 : Demand2
-demand-2 = record { words = words-derive; facts = facts-counted; ends = ends-shown; marks = marks-right }
+      go (answer, tells, marks-outcome.answered {secret = secret′} e u y are) =
+          let z = one-told (sym tells ∙ u) told in
+          let same : secret ≡ secret′ = cc in
+          record {
+            each = λ t l. marks-token report t _ l (rw (given-is (report .grammar)) at (are .mark t l));
+            past = record { long = are .long; past = are .past };
+            counted = same ∙ are .ones;
+          }
