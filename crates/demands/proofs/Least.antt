@@ -42,41 +42,39 @@ module _ {G : Grammar} {x : Input} where
       LeastHeight G (x .line) A i j (depthKept (r .depths) (x .line) A i j)
   depths-least report A i j a l k = least-height (encoded-proper (report .grammar)) (reports-work report .depth A i j a l k)
 
-  pub rounds-told : {r : Result chart} → Reports G x chart r → (rounds facts : ℕ) → r .told ≡ answered (rounds ∷ facts ∷ []) → RoundsIs G (x .line) rounds
-  rounds-told {r} report rounds facts told = go (report .allowed)
+  pub rounds-told : {r : Result chart} → Reports G x chart r → (values : List ℕ) → r .told ≡ answered values →
+      (rounds : ℕ) × (facts : ℕ) × (values ≡ rounds ∷ facts ∷ []) × RoundsIs G (x .line) rounds
+  rounds-told {r} report values told = go (report .allowed)
     where
-      go : Allowed x chart r → RoundsIs G (x .line) rounds
+      go : Allowed x chart r → (rounds : ℕ) × (facts : ℕ) × (values ≡ rounds ∷ facts ∷ []) × RoundsIs G (x .line) rounds
       go (answer, tells, chart-outcome.turnedDown e a w d) = absurd (not-refused told (sym tells ∙ ap chartTold a))
-      go (answer, tells, chart-outcome.filled {rounds = rounds′} e t m f y) =
-          let z = one-told (sym tells ∙ t) told in
-          let same : rounds′ ≡ rounds = cc in
-          rw (given-is (report .grammar), same) at m
+      go (answer, tells, chart-outcome.filled {rounds = rounds} {facts = facts} e t m f y) =
+          (rounds, length facts, one-told told (sym tells ∙ t), rw (given-is (report .grammar)) at m)
 
-  module _ {A i j : ℕ} {row : List ℕ} {r : Result (tree A i j row)} (report : Reports G x (tree A i j row) r) (nodes : ℕ) (told : r .told ≡ answered (nodes ∷ [])) where
-    abbrev depth : ℕ
-    depth = depthKept (r .depths) (x .line) A i j
-
+  module _ {A i j : ℕ} {row : List ℕ} {r : Result (tree A i j row)} (report : Reports G x (tree A i j row) r) (values : List ℕ) (told : r .told ≡ answered values) where
+    -- the chosen tree of a grammar is what is told and written
     abbrev Shown : Grammar → Type 0
-    Shown H = (t : Tree H (x .line) A i j) × Chosen t × (nodes ≡ length (preorder t)) × (r .row ≡ bytes (preorder t) ++ drop (length (bytes (preorder t))) row)
+    Shown H = (t : Tree H (x .line) A i j) × Chosen t × (values ≡ length (preorder t) ∷ []) × (r .row ≡ bytes (preorder t) ++ drop (length (bytes (preorder t))) row)
 
     shown : Allowed x (tree A i j row) r → Shown (grammarGiven (x .grammar))
     shown (answer, tells, tree-outcome.turnedDown e a w d o) = absurd (not-refused told (sym tells ∙ ap treeTold a))
     shown (answer, tells, tree-outcome.noFact e n a y o) = absurd (not-refused told (sym tells ∙ ap treeTold a))
     shown (answer, tells, tree-outcome.noRoom t e c l a y o) = absurd (not-refused told (sym tells ∙ ap treeTold a))
-    shown (answer, tells, tree-outcome.shows t e c l a y o) = (t, c, (let z = one-told (sym tells ∙ a) told in cc), o)
+    shown (answer, tells, tree-outcome.shows t e c l a y o) = (t, c, one-told told (sym tells ∙ a), o)
 
-    pub tree-shown : ShowsTree G (x .line) A i j depth nodes row (r .row)
+    pub tree-shown : (nodes : ℕ) × (values ≡ nodes ∷ []) × ShowsTree G (x .line) A i j (depthKept (r .depths) (x .line) A i j) nodes row (r .row)
     tree-shown =
         let asked = reports-right report .asked in
         let t = rw (given-is (report .grammar)) at (shown (report .allowed)) in
         let least = depths-least report A i j (asked 0 (omega arith) .category refl) (asked 1 (omega arith) .start refl) (asked 2 (omega arith) .end refl .1) .least (t .0) in
-        record { tree = t .0; chosen = t .1; high = chosen-height (t .0) (t .1) least; counted = t .2; written = t .3 }
+        (length (preorder (t .0)), t .2, record { tree = t .0; chosen = t .1; high = chosen-height (t .0) (t .1) least; counted = refl; written = t .3 })
 
-  pub forest-listed : {rows : List Branch} {r : Result (forest rows)} → Reports G x (forest rows) r → (count : ℕ) → r .told ≡ answered (count ∷ []) → ListsRecords G (x .line) count rows (r .row)
-  forest-listed {rows} {r} report count told = go (report .allowed)
+  pub forest-listed : {rows : List Branch} {r : Result (forest rows)} → Reports G x (forest rows) r → (values : List ℕ) → r .told ≡ answered values →
+      (count : ℕ) × (values ≡ count ∷ []) × ListsRecords G (x .line) count rows (r .row)
+  forest-listed {rows} {r} report values told = go (report .allowed)
     where
-      go : Allowed x (forest rows) r → ListsRecords G (x .line) count rows (r .row)
+      go : Allowed x (forest rows) r → (count : ℕ) × (values ≡ count ∷ []) × ListsRecords G (x .line) count rows (r .row)
       go (answer, tells, forest-outcome.turnedDown e a w d o) = absurd (not-refused told (sym tells ∙ ap forestTold a))
       go (answer, tells, forest-outcome.noRoom e is l a y o) = absurd (not-refused told (sym tells ∙ ap forestTold a))
       go (answer, tells, forest-outcome.answered {records = records} e is l a y o) =
-          record { records = records; all = rw (given-is (report .grammar)) at is; counted = (let z = one-told (sym tells ∙ a) told in cc); written = o }
+          (length records, one-told told (sym tells ∙ a), record { records = records; all = rw (given-is (report .grammar)) at is; counted = refl; written = o })

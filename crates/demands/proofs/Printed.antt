@@ -104,7 +104,7 @@ module _ {G : Grammar} (input : List ℕ) (job : Job) (right : AllRight G (jobIn
           refusedTree (rowOf refusal) (told-listed asked query _ (ending asked query _ (result-exists asked query .1)) (rowOf refusal) (sym tells)) (rw verdict (ap (λ (l : List ℕ). numbered "tree" (spanNumbers s) ++ l) (append-nil (refusedLine (rowOf refusal)))))
       go (tree-answer.Nodes count, tells, o) =
           let report : Reports G asked query (result-exists asked query .0) = record { grammar = right .grammar; allowed = result-exists asked query .1; fills = rw (← tells) answers } in
-          let shows = tree-shown report count (sym tells) in
+          let shows = tree-shown report (count ∷ []) (sym tells) .2 in
           let t = shows .tree in
           let depth = depth-exists G (asked .line) t .1 in
           let nodes = chosen-shown G (asked .line) (encoded-proper (right .grammar)) t (shows .chosen) in

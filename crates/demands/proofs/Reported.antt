@@ -7,7 +7,6 @@ use native.Mathlib.Omega.{arith}
 use lib.ListN.{length, getD}
 use Rattle.refusals.specs.Told.{Told, answered}
 use Rattle.positions.specs.Member.{Member}
-use Rattle.positions.specs.Count.{countBelow}
 use Rattle.derivation.specs.Grammar.{Grammar}
 use Rattle.derivation.specs.Fact.{Fact}
 use Rattle.derivation.specs.Secret.{Secret, byClass, byFact}
@@ -89,42 +88,47 @@ module _ {G : Grammar} {x : Input} where
       let f = fact-derives report A i j in
       (λ m. f .0 (bit .0 m), λ d. bit .1 (f .1 d))
 
-  pub facts-counted : {r : Result chart} → Reports G x chart r → (rounds facts : ℕ) → r .told ≡ answered (rounds ∷ facts ∷ []) → (l : List Span) × DerivedAre G (x .line) l × (length l ≡ facts)
-  facts-counted {r} report rounds facts told = go (report .allowed)
+  pub facts-counted : {r : Result chart} → Reports G x chart r → (values : List ℕ) → r .told ≡ answered values →
+      (rounds : ℕ) × (facts : List Span) × (values ≡ rounds ∷ length facts ∷ []) × DerivedAre G (x .line) facts
+  facts-counted {r} report values told = go (report .allowed)
     where
-      go : Allowed x chart r → (l : List Span) × DerivedAre G (x .line) l × (length l ≡ facts)
+      go : Allowed x chart r → (rounds : ℕ) × (facts : List Span) × (values ≡ rounds ∷ length facts ∷ []) × DerivedAre G (x .line) facts
       go (answer, tells, chart-outcome.turnedDown e a w d) = absurd (not-refused told (sym tells ∙ ap chartTold a))
-      go (answer, tells, chart-outcome.filled {facts = l} e t m f y) =
-          (l, facts-derived report l (rw (given-is (report .grammar)) at f), let z = one-told (sym tells ∙ t) told in cc)
+      go (answer, tells, chart-outcome.filled {rounds = rounds} {facts = facts} e t m f y) =
+          (rounds, facts, one-told told (sym tells ∙ t), facts-derived report facts (rw (given-is (report .grammar)) at f))
 
-  pub ends-shown : {A i : ℕ} {r : Result (ends A i)} → Reports G x (ends A i) r → (row count smallest : ℕ) → r .told ≡ answered (row ∷ count ∷ smallest ∷ []) → ShowsEnds G (x .line) A i row count smallest
-  ends-shown {A} {i} {r} report row count smallest told = go (report .allowed)
+  pub ends-shown : {A i : ℕ} {r : Result (ends A i)} → Reports G x (ends A i) r → (values : List ℕ) → r .told ≡ answered values →
+      (row : ℕ) × (count : ℕ) × (smallest : ℕ) × (values ≡ row ∷ count ∷ smallest ∷ []) × ShowsEnds G (x .line) A i row count smallest
+  ends-shown {A} {i} {r} report values told = go (report .allowed)
     where
-      go : Allowed x (ends A i) r → ShowsEnds G (x .line) A i row count smallest
+      go : Allowed x (ends A i) r → (row : ℕ) × (count : ℕ) × (smallest : ℕ) × (values ≡ row ∷ count ∷ smallest ∷ []) × ShowsEnds G (x .line) A i row count smallest
       go (answer, tells, ends-outcome.turnedDown e a w d) = absurd (not-refused told (sym tells ∙ ap endsTold a))
-      go (answer, tells, ends-outcome.found {row = row′} {count = count′} {smallest = smallest′} e t m c f y) =
-          let z = one-told (sym tells ∙ t) told in
-          let rows : row′ ≡ row = cc in
-          let counts : count′ ≡ count = cc in
-          let firsts : smallest′ ≡ smallest = cc in
-          let bits = rw (given-is (report .grammar), rows) at m in
-          record {
-            each = λ j. let d = fact-derives report A i j in (λ b. d .0 (bits j .0 b), λ h. bits j .1 (d .1 h));
-            counted = sym counts ∙ c ∙ ap (countBelow 64) rows;
-            first = rw (rows, firsts) at f;
-          }
+      go (answer, tells, ends-outcome.found {row = row} {count = count} {smallest = smallest} e t m c f y) =
+          let bits = rw (given-is (report .grammar)) at m in (
+            row,
+            count,
+            smallest,
+            one-told told (sym tells ∙ t),
+            record {
+              each = λ j. let d = fact-derives report A i j in (λ b. d .0 (bits j .0 b), λ h. bits j .1 (d .1 h));
+              counted = c;
+              first = f;
+            },
+          )
 
-  pub marks-right : {row : List ℕ} {r : Result (marks row)} → Reports G x (marks row) r → (secret : ℕ) → r .told ≡ answered (secret ∷ []) → ShowsMarks G (x .line) secret row (r .row)
-  marks-right {row} {r} report secret told = go (report .allowed)
+  pub marks-right : {row : List ℕ} {r : Result (marks row)} → Reports G x (marks row) r → (values : List ℕ) → r .told ≡ answered values →
+      (secret : ℕ) × (values ≡ secret ∷ []) × ShowsMarks G (x .line) secret row (r .row)
+  marks-right {row} {r} report values told = go (report .allowed)
     where
-      go : Allowed x (marks row) r → ShowsMarks G (x .line) secret row (r .row)
+      go : Allowed x (marks row) r → (secret : ℕ) × (values ≡ secret ∷ []) × ShowsMarks G (x .line) secret row (r .row)
       go (answer, tells, marks-outcome.turnedDown e a w d m) = absurd (not-refused told (sym tells ∙ ap marksTold a))
       go (answer, tells, marks-outcome.noRoom e k a y m) = absurd (not-refused told (sym tells ∙ ap marksTold a))
-      go (answer, tells, marks-outcome.answered {secret = secret′} e u y are) =
-          let z = one-told (sym tells ∙ u) told in
-          let same : secret ≡ secret′ = cc in
-          record {
-            each = λ t l. marks-token report t _ l (rw (given-is (report .grammar)) at (are .mark t l));
-            past = record { long = are .long; past = are .past };
-            counted = same ∙ are .ones;
-          }
+      go (answer, tells, marks-outcome.answered {secret = secret} e u y are) = (
+        secret,
+        one-told told (sym tells ∙ u),
+        record {
+          each = λ t l. marks-token report t _ l (rw (given-is (report .grammar)) at (are .mark t l));
+          past = record { long = are .long; past = are .past };
+          counted = are .ones;
+        },
+      )

@@ -90,18 +90,18 @@ pub record Demand2 : Type 0 where
   pub words : {G : Grammar} {x : Input} {q : Query} {r : Result q} → Reports G x q r →
       (A i j : ℕ) → A < length (G .categories) → i ≤ length (x .line) →
       Member (getD (r .words) (A * (length (x .line) + 1) + i) 0) j ↔ Derives G (x .line) A i j
-  -- Chart counts exactly these
+  -- Chart tells rounds, and counts exactly these
   pub facts : {G : Grammar} {x : Input} {r : Result chart} → Reports G x chart r →
-      (rounds facts : ℕ) → r .told ≡ answered (rounds ∷ facts ∷ []) →
-      (l : List Span) × DerivedAre G (x .line) l × (length l ≡ facts)
-  -- Ends tells exactly the ends of A from i
+      (values : List ℕ) → r .told ≡ answered values →
+      (rounds : ℕ) × (facts : List Span) × (values ≡ rounds ∷ length facts ∷ []) × DerivedAre G (x .line) facts
+  -- Ends tells the row of exactly the ends of A from i, their number and the smallest
   pub ends : {G : Grammar} {x : Input} {A i : ℕ} {r : Result (ends A i)} → Reports G x (ends A i) r →
-      (row count smallest : ℕ) → r .told ≡ answered (row ∷ count ∷ smallest ∷ []) →
-      ShowsEnds G (x .line) A i row count smallest
-  -- Marks writes a mark for each token: 1 exactly where it is secret
+      (values : List ℕ) → r .told ≡ answered values →
+      (row : ℕ) × (count : ℕ) × (smallest : ℕ) × (values ≡ row ∷ count ∷ smallest ∷ []) × ShowsEnds G (x .line) A i row count smallest
+  -- Marks writes a mark for each token, 1 exactly where it is secret, and tells how many are
   pub marks : {G : Grammar} {x : Input} {row : List ℕ} {r : Result (marks row)} → Reports G x (marks row) r →
-      (secret : ℕ) → r .told ≡ answered (secret ∷ []) →
-      ShowsMarks G (x .line) secret row (r .row)
+      (values : List ℕ) → r .told ≡ answered values →
+      (secret : ℕ) × (values ≡ secret ∷ []) × ShowsMarks G (x .line) secret row (r .row)
   -- of such a job, the program prints the facts, the marks and, for each question, the tree or the refusal
   pub output : (input : List ℕ) (job : Job) → jobOf input ≡ Read job →
       {G : Grammar} → AllRight G (jobInput input job) chart → PrintsAnswers G (jobInput input job) (questionsPart input job) (printed input)
@@ -137,15 +137,15 @@ pub record Demand3 : Type 0 where
   pub depths : {G : Grammar} {x : Input} {q : Query} {r : Result q} → Reports G x q r →
       (A i j : ℕ) → A < length (G .categories) → i ≤ length (x .line) → j ≤ length (x .line) →
       LeastHeight G (x .line) A i j (depthKept (r .depths) (x .line) A i j)
-  -- Tree shows a tree of exactly that height
+  -- Tree writes the nodes of a tree of exactly that height, and tells how many they are
   pub tree : {G : Grammar} {x : Input} {A i j : ℕ} {row : List ℕ} {r : Result (tree A i j row)} → Reports G x (tree A i j row) r →
-      (nodes : ℕ) → r .told ≡ answered (nodes ∷ []) →
-      ShowsTree G (x .line) A i j (depthKept (r .depths) (x .line) A i j) nodes row (r .row)
-  -- rounds is the greatest depth, 0 when nothing is found
+      (values : List ℕ) → r .told ≡ answered values →
+      (nodes : ℕ) × (values ≡ nodes ∷ []) × ShowsTree G (x .line) A i j (depthKept (r .depths) (x .line) A i j) nodes row (r .row)
+  -- the rounds that Chart tells are the greatest depth, 0 when nothing is found
   pub rounds : {G : Grammar} {x : Input} {r : Result chart} → Reports G x chart r →
-      (rounds facts : ℕ) → r .told ≡ answered (rounds ∷ facts ∷ []) →
-      RoundsIs G (x .line) rounds
-  -- Forest lists the records
+      (values : List ℕ) → r .told ≡ answered values →
+      (rounds : ℕ) × (facts : ℕ) × (values ≡ rounds ∷ facts ∷ []) × RoundsIs G (x .line) rounds
+  -- Forest writes the records, and tells how many they are
   pub forest : {G : Grammar} {x : Input} {rows : List Branch} {r : Result (forest rows)} → Reports G x (forest rows) r →
-      (count : ℕ) → r .told ≡ answered (count ∷ []) →
-      ListsRecords G (x .line) count rows (r .row)
+      (values : List ℕ) → r .told ≡ answered values →
+      (count : ℕ) × (values ≡ count ∷ []) × ListsRecords G (x .line) count rows (r .row)
