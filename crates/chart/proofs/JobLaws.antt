@@ -1,8 +1,8 @@
--- What Chart and Ends lead to on the document's job and on the empty line, with work memory of any old contents.
+-- What Chart and Ends lead to on the document's job and on another line of its length, with work memory of any old contents.
 use Prim.Native.Nat.{ℕ, zero, suc, _+_, _*_, _≤_, _<_}
 use mathlib.Core.Path.{_≡_, refl, _∙_}
 use mathlib.Core.Bool.{cond}
-use mathlib.Core.List.{List, []}
+use mathlib.Core.List.{List}
 use native.Mathlib.Omega.{arith}
 use lib.ListN.{length, getD}
 use borrow.Author.Tests.{le-ltb}
@@ -35,7 +35,7 @@ use Rattle.chart.specs.declared.EndsAnswer.{EndsAnswer}
 use Rattle.chart.specs.declared.EndsAnswer.the-variants as ends
 use Rattle.chart.specs.ChartOutcome.{ChartOutcome}
 use Rattle.chart.specs.EndsOutcome.{EndsOutcome}
-use Rattle.chart.specs.inner.Job.{jobBytes, jobGrammar, jobLine, JobMemory}
+use Rattle.chart.specs.inner.Job.{jobBytes, jobGrammar, jobLine, otherLine, JobMemory}
 use Rattle.chart.proofs.CheckLaws.{Passes}
 use Rattle.chart.proofs.AnswerLaws.{row-is, chart-answered, ends-answered}
 
@@ -74,13 +74,17 @@ job-row : listed (λ j. cond (facts jobGrammar jobLine 0 1 j) 1 0) 0 7 ≡ liste
 unfolding jobGrammar jobLine facts depths table listed isFound grade round children child tokenIs some digit
 job-row = refl
 
-empty-rounds : roundsOf jobGrammar [] ≡ 0
-unfolding jobGrammar roundsOf greatest depths table listed isFound grade round children child tokenIs some
-empty-rounds = refl
+other-rounds : roundsOf jobGrammar otherLine ≡ 0
+unfolding jobGrammar otherLine roundsOf greatest depths table listed isFound grade round children child tokenIs some
+other-rounds = refl
 
-empty-facts : factCount jobGrammar [] ≡ 0
-unfolding jobGrammar factCount total facts depths table listed isFound grade round children child tokenIs some
-empty-facts = refl
+other-facts : factCount jobGrammar otherLine ≡ 0
+unfolding jobGrammar otherLine factCount total facts depths table listed isFound grade round children child tokenIs some
+other-facts = refl
+
+other-row : listed (λ j. cond (facts jobGrammar otherLine 0 1 j) 1 0) 0 7 ≡ listed (digit 0) 0 7
+unfolding jobGrammar otherLine facts depths table listed isFound grade round children child tokenIs some digit
+other-row = refl
 
 job-smallest : First 84 2
 unfolding digit
@@ -104,9 +108,9 @@ module _ {words depths : List ℕ} (memory : JobMemory words depths) where
   unfolding jobLine lineCheck tokensFrom startCheck
   start-passes = record { read = job-read; rest = rw (le-ltb (length words) 7 (memory .words-long), le-ltb (length depths) 49 (memory .depths-long)) }
 
-  empty-passes : Passes jobBytes [] Nothing (length words) (length depths) jobSections
-  unfolding lineCheck tokensFrom
-  empty-passes = record { read = job-read; rest = rw (le-ltb (length words) 1 (omega arith), le-ltb (length depths) 1 (omega arith)) }
+  other-passes : Passes jobBytes otherLine Nothing (length words) (length depths) jobSections
+  unfolding otherLine lineCheck tokensFrom
+  other-passes = record { read = job-read; rest = rw (le-ltb (length words) 7 (memory .words-long), le-ltb (length depths) 49 (memory .depths-long)) }
 
   -- the work memory holds the chart and the depths of the job's line
   pub job-filled : {answer : ChartAnswer} {words′ depths′ : List ℕ} → ChartOutcome jobBytes jobLine words depths answer words′ depths′ → WorkFilled jobGrammar jobLine words depths words′ depths′
@@ -123,14 +127,14 @@ module _ {words depths : List ℕ} (memory : JobMemory words depths) where
         depthIs-unique (filled .depth 0 1 6 (omega arith) (omega arith) (omega arith)) (deep job-deep),
       )
 
-  -- on the empty line: no fact, rounds 0, and the chart is one word
-  pub empty-outcome : {answer : ChartAnswer} {words′ depths′ : List ℕ} → ChartOutcome jobBytes [] words depths answer words′ depths′ →
-      (answer ≡ chart.Filled 0 0) × ((q : ℕ) → 1 ≤ q → getD words′ q 0 ≡ getD words q 0)
-  unfolding jobGrammar
-  empty-outcome o =
-      let e = chart-answered jobBytes [] words depths jobSections empty-passes o in
-      let filled : WorkFilled jobGrammar [] words depths _ _ = rw job-grammar at (e .1) in
-      (e .0 ∙ rw (job-grammar, empty-rounds, empty-facts), filled .words-past)
+  -- on the other line: no fact, rounds 0, and the row of (0, 1) is empty
+  pub other-outcome : {answer : ChartAnswer} {words′ depths′ : List ℕ} → ChartOutcome jobBytes otherLine words depths answer words′ depths′ →
+      (answer ≡ chart.Filled 0 0) × (getD words′ 1 0 ≡ 0)
+  unfolding jobGrammar otherLine
+  other-outcome o =
+      let e = chart-answered jobBytes otherLine words depths jobSections other-passes o in
+      let filled : WorkFilled jobGrammar otherLine words depths _ _ = rw job-grammar at (e .1) in
+      (e .0 ∙ rw (job-grammar, other-rounds, other-facts), row-is jobGrammar otherLine job-proper 0 1 _ (filled .word 0 1 (omega arith) (omega arith)) 0 (omega arith) other-row)
 
   -- the row of (0, 1) is 84, three ends, smallest 2
   pub job-ends : {answer : EndsAnswer} {words′ depths′ : List ℕ} → EndsOutcome jobBytes jobLine 0 1 words depths answer words′ depths′ → answer ≡ ends.Row 84 3 2

@@ -1,7 +1,7 @@
 -- The wrong programs that the document names: the contracts allow none of their outcomes on the job.
 use Prim.Native.Nat.{ℕ, _+_, _*_}
 use mathlib.Core.Path.{_≡_}
-use mathlib.Core.List.{List, []}
+use mathlib.Core.List.{List}
 use native.Mathlib.Omega.{arith}
 use lib.ListN.{getD}
 use Rattle.refusals.specs.declared.Refusal.{Refusal}
@@ -11,27 +11,26 @@ use Rattle.chart.specs.declared.ChartAnswer.the-variants as chart
 use Rattle.chart.specs.declared.EndsAnswer.the-variants as ends
 use Rattle.chart.specs.ChartOutcome.{ChartOutcome}
 use Rattle.chart.specs.EndsOutcome.{EndsOutcome}
-use Rattle.chart.specs.inner.Job.{jobBytes, jobGrammar, jobLine, JobMemory}
-use Rattle.chart.proofs.JobLaws.{job-deep, job-filled, job-outcome, empty-outcome, job-ends}
+use Rattle.chart.specs.inner.Job.{jobBytes, jobGrammar, jobLine, otherLine, JobMemory}
+use Rattle.chart.proofs.JobLaws.{job-deep, job-filled, job-outcome, other-outcome, job-ends}
 
 module _ {words depths : List ℕ} (memory : JobMemory words depths) where
   -- it refuses everything
   pub refuses-everything : {refusal : Refusal} {words′ depths′ : List ℕ} → ChartOutcome jobBytes jobLine words depths (chart.Refused refusal) words′ depths′ → ⊥
   refuses-everything o = let e = job-outcome memory o .0 in let z : _≡_ {A = ℕ} 0 1 = cc in omega arith
 
-  -- it answers the same on every line
+  -- it answers the same on lines of one length
   pub one-fixed-answer : {answer : ChartAnswer} {words′ depths′ words″ depths″ : List ℕ} →
-      ChartOutcome jobBytes jobLine words depths answer words′ depths′ → ChartOutcome jobBytes [] words depths answer words″ depths″ → ⊥
+      ChartOutcome jobBytes jobLine words depths answer words′ depths′ → ChartOutcome jobBytes otherLine words depths answer words″ depths″ → ⊥
   one-fixed-answer o p =
       let e = job-outcome memory o .0 in
-      let f = empty-outcome memory p .0 in
+      let f = other-outcome memory p .0 in
       let z : _≡_ {A = ℕ} 3 0 = cc in omega arith
 
-  -- it leaves one fixed chart, whatever it answers; word 1 was cleared
-  pub one-fixed-chart : {a b : ChartAnswer} {words′ depths′ depths″ : List ℕ} → getD words 1 0 ≡ 0 →
-      ChartOutcome jobBytes jobLine words depths a words′ depths′ → ChartOutcome jobBytes [] words depths b words′ depths″ → ⊥
-  one-fixed-chart clear o p =
-      omega (arith, job-outcome memory o .1, empty-outcome memory p .1 1 (omega arith))
+  -- it leaves one fixed chart on lines of one length, whatever the memory held and whatever it answers
+  pub one-fixed-chart : {a b : ChartAnswer} {words′ depths′ depths″ : List ℕ} →
+      ChartOutcome jobBytes jobLine words depths a words′ depths′ → ChartOutcome jobBytes otherLine words depths b words′ depths″ → ⊥
+  one-fixed-chart o p = omega (arith, job-outcome memory o .1, other-outcome memory p .1)
 
   -- it writes nothing into the chart; word 1 was cleared
   pub writes-nothing : {answer : ChartAnswer} {depths′ : List ℕ} → getD words 1 0 ≡ 0 → ChartOutcome jobBytes jobLine words depths answer words depths′ → ⊥

@@ -14,6 +14,10 @@ jobGrammar = record { classes = 0 ∷ 0 ∷ 0 ∷ []; categories = 1 ∷ []; rul
 unfoldable pub jobLine : List ℕ
 jobLine = 2 ∷ 0 ∷ 1 ∷ 0 ∷ 1 ∷ 0 ∷ []
 
+-- a line of the same length on which there is no fact
+unfoldable pub otherLine : List ℕ
+otherLine = 2 ∷ 2 ∷ 2 ∷ 2 ∷ 2 ∷ 2 ∷ []
+
 -- 1×7 words and 1×7×7 numbers at least, of any contents
 pub record JobMemory (words depths : List ℕ) : Type 0 where
   pub words-long : 7 ≤ length words
