@@ -25,10 +25,12 @@ use Rattle.grammar.specs.declared.reading.Reading.the-variants.{Accepted, Refus
 use Rattle.grammar.specs.Reading.{readOf}
 use Rattle.grammar.specs.Value.{Sectioned, grammarOf}
 use Rattle.grammar.specs.Given.{checkOf, sectionsIn, grammarGiven}
+use Rattle.grammar.specs.Told.{readingTold}
 use Rattle.grammar.proofs.Accepted.{accepted, whole}
 use Rattle.grammar.proofs.Encoded.{sections-proper, accepted-proper, category-count}
 use Rattle.chart.specs.inner.Checked.{acceptedIf, checkedOf}
 use Rattle.chart.specs.Checks.{checksOn, checksOf, depthCheck}
+use Rattle.chart.specs.Told.{firstTold}
 
 -- sections are handed on exactly where the check passes
 accepted-passed : (s x : Sections) (c : Check) → acceptedIf x c ≡ Accepted s → (x ≡ s) × (c ≡ check.Passed)
@@ -94,6 +96,17 @@ early-passed {g} {line} {asked} words depths {s} fact room passes =
     rw (passes .read)
     (passed-before (lineCheck (s .classes) line) (askedCheck (s .categories) (length line) asked) (workCheck (s .categories) (length line) (length words) (length depths)) (depthCheck (grammarOf g s) line) (passes .rest)
     ∙ depth-passes passes)
+
+-- what the first checks tell
+pub checked-told :
+    (g line : List ℕ) (asked : Asked) (words depths : List ℕ) → readingTold (checkedOf (readOf g) line asked (length words) (length depths)) ≡ firstTold g line asked words depths
+checked-told g line asked words depths = go (checkedOf (readOf g) line asked (length words) (length depths)) refl
+  where
+    go : (r : Reading) → checkedOf (readOf g) line asked (length words) (length depths) ≡ r → readingTold r ≡ firstTold g line asked words depths
+    go (Refused refusal) e = rw (checked-refused (readOf g) (grammarGiven g) line asked words depths check.Passed check.Passed refusal e)
+    go (Accepted s) e =
+        let passes = checked-accepted g line asked (length words) (length depths) s e in
+        rw (early-passed words depths check.Passed check.Passed passes, passes .read)
 
 -- a question whose first checks pass has a grammar with every rule's left category in it
 pub early-proper : (g line : List ℕ) (asked : Asked) (words depths : List ℕ) (fact room : Check) → early (checksOf g line asked words depths fact room) ≡ check.Passed → Proper (grammarGiven g)

@@ -23,7 +23,7 @@ pub enum Asked {
 }
 
 // At most 63 tokens, each below the number of classes.
-pub fn check_line(classes: usize, line: &[u8]) -> Check
+fn check_line(classes: usize, line: &[u8]) -> Check
     ensures { λ r. ⌜ r ≡ lineCheck classes (now (line .entry)) ⌝ }
 {
     if 63 < line.len() {
@@ -85,7 +85,7 @@ fn check_asked(categories: usize, n: usize, asked: Asked) -> Check
 }
 
 // Chart memory for a line of n tokens.
-pub fn check_chart(categories: usize, n: usize, words: usize) -> Check
+fn check_chart(categories: usize, n: usize, words: usize) -> Check
     requires { ⌜ (categories ≤ 32) × (n ≤ 63) ⌝ }
     ensures { λ r. ⌜ r ≡ chartCheck categories n words ⌝ }
 {
@@ -96,7 +96,7 @@ pub fn check_chart(categories: usize, n: usize, words: usize) -> Check
 }
 
 // Depth memory for a line of n tokens.
-pub fn check_depths(categories: usize, n: usize, numbers: usize) -> Check
+fn check_depths(categories: usize, n: usize, numbers: usize) -> Check
     requires { ⌜ (categories ≤ 32) × (n ≤ 63) ⌝ }
     ensures { λ r. ⌜ r ≡ depthsCheck categories n numbers ⌝ }
 {
@@ -107,7 +107,7 @@ pub fn check_depths(categories: usize, n: usize, numbers: usize) -> Check
 }
 
 // Chart memory, then depth memory, for a line of n tokens.
-pub fn check_work(categories: usize, n: usize, words: usize, numbers: usize) -> Check
+fn check_work(categories: usize, n: usize, words: usize, numbers: usize) -> Check
     requires { ⌜ (categories ≤ 32) × (n ≤ 63) ⌝ }
     ensures { λ r. ⌜ r ≡ workCheck categories n words numbers ⌝ }
 {

@@ -15,3 +15,8 @@ pub data Told : Type 0 where
 abbrev pub checkTold : Check → Told
 checkTold Passed = answered []
 checkTold (Refused refusal) = refused (rowOf refusal)
+
+-- the first where it is a refusal, or else the next
+abbrev pub toldFirst : Told → Told → Told
+toldFirst (refused row) next = refused row
+toldFirst (answered values) next = next

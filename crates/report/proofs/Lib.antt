@@ -1,5 +1,6 @@
 pub mod JobLaws
 pub mod JobEncoding
+pub mod CutLaws
 pub mod CheckLaws
 pub mod GatherLaws
 pub mod FactLaws
