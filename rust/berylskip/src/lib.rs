@@ -3,6 +3,8 @@
 //! Every question fills the lent work memory anew: [`words_needed`] words and [`depths_needed`] depths. Memory past these keeps
 //! what it held. A question that is turned down answers [`Refused`]. After the numbers 1 to 9 and 12 all lent memory is as
 //! before; after 10 and 11 the work memory is filled, and the marks, the tree's bytes or the records are as before.
+//!
+//! The thread that asks needs 64 KiB of stack, or 1 MiB where it asks for a tree (docs/CONTRACTS.md, Stack).
 mod raw;
 
 /// A question was turned down: the refusal's number, 1 to 12, and its place (docs/REFUSALS.md).
@@ -38,14 +40,14 @@ pub struct Branch {
     pub end: u8,
 }
 
-/// How many words the chart of a line of so many tokens takes: N×(n+1).
+/// How many words the chart of a line of so many tokens takes: N×(n+1), or `usize::MAX` where that is larger.
 pub fn words_needed(categories: usize, tokens: usize) -> usize {
-    categories * (tokens + 1)
+    categories.saturating_mul(tokens.saturating_add(1))
 }
 
-/// How many depths a line of so many tokens takes: N×(n+1)×(n+1).
+/// How many depths a line of so many tokens takes: N×(n+1)×(n+1), or `usize::MAX` where that is larger.
 pub fn depths_needed(categories: usize, tokens: usize) -> usize {
-    categories * (tokens + 1) * (tokens + 1)
+    words_needed(categories, tokens).saturating_mul(tokens.saturating_add(1))
 }
 
 // The answer of a question that returned this number and wrote this place.

@@ -50,6 +50,10 @@ fn sizes() {
         (words_needed(32, 63), depths_needed(32, 63)),
         (2048, 131072)
     );
+    assert_eq!(
+        (words_needed(usize::MAX, 1), depths_needed(2, usize::MAX)),
+        (usize::MAX, usize::MAX)
+    );
 }
 
 #[test]
