@@ -56,15 +56,6 @@ commit-rows-requires c κs =
       few i,
     )
 
-insert-requires : tie.Need-insert-requires Inv-loop μ-loop
-insert-requires c κs = omega arith
-
-add-a : tie.Need-add-a Inv-loop μ-loop
-add-a c = omega arith
-
-loop-less : tie.Need-loop-less Inv-loop μ-loop
-loop-less c = omega arith
-
 loop-again : tie.Need-loop-again Inv-loop μ-loop
 loop-again c =
     let rows = c .before .before .before .before .before in
@@ -102,9 +93,7 @@ commit-spec =
     mul-from
     add-commit-rows
     commit-rows-requires
-    insert-requires
-    add-a
-    loop-less
+    (search needs) (search needs) (search needs)
     loop-again
     same-length
     same-length-2

@@ -50,12 +50,6 @@ module _ (c : tie.After-first Inv-loop μ-loop) where
 loop-holds : tie.Need-loop-holds Inv-loop μ-loop
 loop-holds c = (search needs, refl, c .before .pre, λ final d. d)
 
-first-requires : tie.Need-first-requires Inv-loop μ-loop
-first-requires c κs = search needs
-
-cast-j : tie.Need-cast-j Inv-loop μ-loop
-cast-j c = search needs
-
 add-depths : tie.Need-add-depths Inv-loop μ-loop
 add-depths c = omega (arith, room c)
 
@@ -101,8 +95,7 @@ write-depths-spec =
     Inv-loop
     μ-loop
     loop-holds
-    first-requires
-    cast-j
+    (search needs) (search needs)
     add-depths
     mul-depths
     slice-write-depths

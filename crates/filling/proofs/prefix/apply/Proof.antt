@@ -30,9 +30,6 @@ mul-base c = omega (arith, inside (c .before .before))
 loop-holds : tie.Need-loop-holds Inv-loop μ-loop
 loop-holds c = (search needs, applied-none)
 
-reach-requires : tie.Need-reach-requires Inv-loop μ-loop
-reach-requires c κs = search needs
-
 add-q : tie.Need-add-q Inv-loop μ-loop
 add-q c = omega (arith, within (c .before))
 
@@ -47,12 +44,6 @@ mul-next-2 c = omega (arith, within (c .before .before))
 
 element-write-next : tie.Need-element-write-next Inv-loop μ-loop
 element-write-next c = within (c .before .before)
-
-add-start : tie.Need-add-start Inv-loop μ-loop
-add-start c = search needs
-
-loop-less : tie.Need-loop-less Inv-loop μ-loop
-loop-less c = search needs
 
 loop-again : tie.Need-loop-again Inv-loop μ-loop
 loop-again c =
@@ -76,13 +67,12 @@ apply-spec =
     μ-loop
     mul-base
     loop-holds
-    reach-requires
+    (λ c κs. search needs)
     add-q
     mul-next
     element-copy-out-next
     mul-next-2
     element-write-next
-    add-start
-    loop-less
+    (search needs) (search needs)
     loop-again
     returns)

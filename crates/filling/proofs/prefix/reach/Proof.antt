@@ -22,26 +22,14 @@ entry c = c .before .before .before .before
 abbrev turn : tie.Else2 Inv-loop μ-loop → tie.At-loop Inv-loop μ-loop
 turn c = c .before .before .before .before
 
-insert-requires : tie.Need-insert-requires Inv-loop μ-loop
-insert-requires c κs = search needs
-
 loop-holds : tie.Need-loop-holds Inv-loop μ-loop
 loop-holds c = (search needs, reached-none (c .insert .result) (c .before .before .before .pre .1) (c .insert .ensures))
 
 returns : tie.Need-returns Inv-loop μ-loop
 returns c = let l = c .before .before .loop in reached-nowhere (l .d) (l .ends) (c .if1 .taken) (l .inv .1)
 
-shared-slice-read-symbol : tie.Need-shared-slice-read-symbol Inv-loop μ-loop
-shared-slice-read-symbol c = search needs
-
 cast-symbol : tie.Need-cast-symbol Inv-loop μ-loop
 cast-symbol c = omega (arith, c .shared-slice-known3 .given (c .before .before .before .loop .d))
-
-mul-after-class : tie.Need-mul-after-class Inv-loop μ-loop
-mul-after-class c = search needs
-
-element-copy-out-after-class : tie.Need-element-copy-out-after-class Inv-loop μ-loop
-element-copy-out-after-class c = search needs
 
 after-class-requires : tie.Need-after-class-requires Inv-loop μ-loop
 after-class-requires c κs = let l = c .before .before .before .before .before in entry l .pre .0 .small _
@@ -55,12 +43,6 @@ mul-union c = omega (arith, inside c)
 
 union-requires : tie.Need-union-requires Inv-loop μ-loop
 union-requires c κs = (entry (turn c) .pre .0 .narrow, inside c)
-
-add-d : tie.Need-add-d Inv-loop μ-loop
-add-d c = search needs
-
-loop-less : tie.Need-loop-less Inv-loop μ-loop
-loop-less c = search needs
 
 loop-again : tie.Need-loop-again Inv-loop μ-loop
 loop-again c =
@@ -82,17 +64,15 @@ reach-spec =
     (tie.spec
     Inv-loop
     μ-loop
-    insert-requires
+    (search needs)
     loop-holds
     returns
-    shared-slice-read-symbol
+    (search needs)
     cast-symbol
-    mul-after-class
-    element-copy-out-after-class
+    (search needs) (search needs)
     after-class-requires
     mul-union
     union-requires
-    add-d
-    loop-less
+    (search needs) (search needs)
     loop-again
     returns-2)

@@ -49,9 +49,6 @@ element-copy-out-at c = few (c .before .before)
 rule-left-requires : tie.Need-rule-left-requires Inv-loop μ-loop
 rule-left-requires c κs = here (c .before .before .before) .stands
 
-cast-left : tie.Need-cast-left Inv-loop μ-loop
-cast-left c = search needs
-
 rule-symbols-requires : tie.Need-rule-symbols-requires Inv-loop μ-loop
 rule-symbols-requires c κs = let turn = c .before .before .before .before in here turn .stands
 
@@ -65,12 +62,6 @@ apply-requires c κs =
       rw (c .before .before .rule-left .ensures) (rule-left-few _ _ (e .pre .0) p _ (here turn) l),
       turn .before .loop .inv .1 _ (e .pre .0) .long ∙ e .pre .5,
     )
-
-add-p : tie.Need-add-p Inv-loop μ-loop
-add-p c = omega arith
-
-loop-less : tie.Need-loop-less Inv-loop μ-loop
-loop-less c = omega arith
 
 -- the next turn, for the sections of the function's entry
 again : (c : tie.Joined1 Inv-loop μ-loop) →
@@ -112,10 +103,9 @@ apply-rules-spec =
     mul-at
     element-copy-out-at
     rule-left-requires
-    cast-left
+    (search needs)
     rule-symbols-requires
     apply-requires
-    add-p
-    loop-less
+    (search needs) (search needs)
     loop-again
     returns)

@@ -38,34 +38,10 @@ turn c = c .before .before .before .before .before .before .before .before .befo
 given : (c : tie.After-insert Inv-loop μ-loop) → Given (grammarOf (now (origin c .args .g)) (origin c .args .s)) (now (origin c .args .line))
 given c = let p = origin c .pre in record { limits = sections-within _ _ (p .0); proper = sections-proper _ _ (p .0); short = p .1 .short }
 
-add-width : tie.Need-add-width Inv-loop μ-loop
-add-width c = search needs
-
-mul-rows : tie.Need-mul-rows Inv-loop μ-loop
-mul-rows c = search needs
-
-clear-words-requires : tie.Need-clear-words-requires Inv-loop μ-loop
-clear-words-requires c κs = search needs
-
-mul-clear-depths : tie.Need-mul-clear-depths Inv-loop μ-loop
-mul-clear-depths c = search needs
-
-clear-depths-requires : tie.Need-clear-depths-requires Inv-loop μ-loop
-clear-depths-requires c κs = search needs
-
-rule-starts-of-requires : tie.Need-rule-starts-of-requires Inv-loop μ-loop
-rule-starts-of-requires c κs = search needs
-
-rule-masks-requires : tie.Need-rule-masks-requires Inv-loop μ-loop
-rule-masks-requires c κs = search needs
-
 class-places-requires : tie.Need-class-places-requires Inv-loop μ-loop
 class-places-requires c κs =
     let p = c .before .before .before .before .before .before .before .before .before .before .before .before .before .before .before .pre in
     record { short = p .1 .short; tokens = λ t l. le-trans (p .1 .tokens t l) (whole _ _ (p .0) .classes-high) }
-
-insert-requires : tie.Need-insert-requires Inv-loop μ-loop
-insert-requires c κs = search needs
 
 loop-holds : tie.Need-loop-holds Inv-loop μ-loop
 loop-holds c = (omega arith, start-done _ _ _ _ _ _ _ _ (category-count _ _ (origin c .pre .0)) (c .insert .ensures) (cleared c .clear-words .ensures) (deep c .clear-depths .ensures))
@@ -79,9 +55,6 @@ few c = rounds-few (given (c .before .before)) (some c) (c .before .loop .inv .1
 
 add-depth : tie.Need-add-depth Inv-loop μ-loop
 add-depth c = omega (arith, few c)
-
-apply-rules-requires : tie.Need-apply-rules-requires Inv-loop μ-loop
-apply-rules-requires c κs = search needs
 
 -- the memory that the loop begins with has the room of the memory at entry
 room : (c : tie.After-insert Inv-loop μ-loop) → chartSize (origin c .args .s .categories) (length (now (origin c .args .line))) ≤ length (cleared c .clear-words .last .0)
@@ -115,17 +88,8 @@ loop-again c =
           (ready .before .before .before .apply-rules .ensures) _ _ _ _ (category-count _ _ (origin begun .pre .0)) (some (turn ready)) (done .commit .ensures),
     )
 
-cast-result : tie.Need-cast-result Inv-loop μ-loop
-cast-result c = omega arith
-
 sub-result : tie.Need-sub-result Inv-loop μ-loop
 sub-result c = some-round (c .loop-test .left) (c .before .loop .inv .1 .changes)
-
-same-length : tie.Need-same-length Inv-loop μ-loop
-same-length c = search needs
-
-same-length-2 : tie.Need-same-length-2 Inv-loop μ-loop
-same-length-2 c = search needs
 
 returns : tie.Need-returns Inv-loop μ-loop
 returns c =
@@ -141,23 +105,18 @@ fill-spec =
     (tie.spec
     Inv-loop
     μ-loop
-    add-width
-    mul-rows
-    clear-words-requires
-    mul-clear-depths
-    clear-depths-requires
-    rule-starts-of-requires
-    rule-masks-requires
+    (search needs) (search needs) (search needs) (search needs) (search needs)
+    (λ c κs. search needs)
+    (λ c κs. search needs)
     class-places-requires
-    insert-requires
+    (search needs)
     loop-holds
     add-depth
-    apply-rules-requires
+    (λ c κs. search needs)
     commit-requires
     loop-less
     loop-again
-    cast-result
+    (search needs)
     sub-result
-    same-length
-    same-length-2
+    (search needs) (search needs)
     returns)

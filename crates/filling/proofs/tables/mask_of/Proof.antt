@@ -24,20 +24,11 @@ loop-holds c = (omega arith, mask-none _)
 symbol : (c : tie.In-loop Inv-loop μ-loop) → getD (now (c .before .before .before .args .symbols)) (c .before .loop .d) 0 < 160
 symbol c = c .before .before .before .pre (c .before .loop .d) (omega arith)
 
-shared-slice-read-symbol : tie.Need-shared-slice-read-symbol Inv-loop μ-loop
-shared-slice-read-symbol c = search needs
-
 cast-symbol : tie.Need-cast-symbol Inv-loop μ-loop
 cast-symbol c = omega (arith, symbol (c .before))
 
 insert-requires : tie.Need-insert-requires Inv-loop μ-loop
 insert-requires c κs = omega (arith, symbol (c .before .before))
-
-add-d : tie.Need-add-d Inv-loop μ-loop
-add-d c = search needs
-
-loop-less : tie.Need-loop-less Inv-loop μ-loop
-loop-less c = search needs
 
 loop-again : tie.Need-loop-again Inv-loop μ-loop
 loop-again c =
@@ -50,9 +41,6 @@ loop-again c =
 -- after the loop: the categories among all symbols
 all : (c : tie.After-loop Inv-loop μ-loop) → let symbols = now (c .before .before .before .args .symbols) in MaskBelow symbols (length symbols) (c .before .loop .mask)
 all c = let e : c .before .loop .d ≡ length (now (c .before .before .before .args .symbols)) = omega arith in rw e at (c .before .loop .inv .1)
-
-insert-requires-2 : tie.Need-insert-requires-2 Inv-loop μ-loop
-insert-requires-2 c κs = search needs
 
 returns : tie.Need-returns Inv-loop μ-loop
 returns c = mask-empty _ _ (rw (c .before .if2 .taken) at (all (c .before .before))) (c .insert2 .ensures)
@@ -67,12 +55,11 @@ mask-of-spec =
     Inv-loop
     μ-loop
     loop-holds
-    shared-slice-read-symbol
+    (search needs)
     cast-symbol
     insert-requires
-    add-d
-    loop-less
+    (search needs) (search needs)
     loop-again
-    insert-requires-2
+    (search needs)
     returns
     returns-2)

@@ -55,9 +55,6 @@ array-write-masks c = few (c .before .before .before)
 add-p : tie.Need-add-p Inv-loop μ-loop
 add-p c = omega (arith, few (c .before .before .before))
 
-loop-less : tie.Need-loop-less Inv-loop μ-loop
-loop-less c = omega arith
-
 loop-again : tie.Need-loop-again Inv-loop μ-loop
 loop-again c =
     let turn = c .before .before .before in
@@ -89,6 +86,6 @@ rule-masks-spec =
     mul-masks
     array-write-masks
     add-p
-    loop-less
+    (λ c. omega arith)
     loop-again
     returns)
