@@ -32,25 +32,13 @@ small c = let p = passes c in chart-small _ _ (categories-few p) (line-is p .sho
 abbrev asked : tie.After-struct-known → tie.After-s
 asked c = c .before .before .before .before .before .before .before .before .before .before
 
-checked-requires : tie.Need-checked-requires
-checked-requires c κs = search needs
-
-enum-known-refusal : tie.Need-enum-known-refusal
-enum-known-refusal c = search needs
-
 returns : tie.Need-returns
 returns c =
     let a = c .before .before .before .before .before .before .before .before .args in
     chart-turned _ _ _ _ _ (checked-refused (readOf (now (a .g))) (grammarGiven (now (a .g))) (now (a .line)) Nothing (now (a .words)) (now (a .depths)) Passed Passed _ (sym (c .before .before .before .checked .ensures) ∙ c .before .refusal .given .1))
 
-enum-known-s : tie.Need-enum-known-s
-enum-known-s c = search needs
-
 fill-requires : tie.Need-fill-requires
 fill-requires c κs = let p = passes (c .before .before .before) in (sections p, line-is p, memory-is p .0, memory-is p .1)
-
-add-count-ends : tie.Need-add-count-ends
-add-count-ends c = search needs
 
 mul-count-ends : tie.Need-mul-count-ends
 mul-count-ends c = omega (arith, small (asked c))
@@ -60,12 +48,6 @@ count-ends-requires c κs =
     let filled = c .before .before .before .before .before .before .fill .ensures in
     (le-trans (memory-is (passes (asked c)) .0) (le-of-eq (sym (filled .work .words-long))), small (asked c))
 
-same-length : tie.Need-same-length
-same-length c = search needs
-
-same-length-2 : tie.Need-same-length-2
-same-length-2 c = search needs
-
 returns-2 : tie.Need-returns-2
 returns-2 c = let filled = c .before .before .before .before .before .before .before .fill .ensures in chart-filled _ _ _ _ _ _ _ _ _ (passes (asked (c .before))) filled (c .count-ends .ensures)
 
@@ -73,14 +55,12 @@ pub chart-spec : {M : Type 1} → statement M
 chart-spec =
     tie.close
     (tie.spec
-    checked-requires
-    enum-known-refusal
+    (search needs) (search needs)
     returns
-    enum-known-s
+    (search needs)
     fill-requires
-    add-count-ends
+    (search needs)
     mul-count-ends
     count-ends-requires
-    same-length
-    same-length-2
+    (search needs) (search needs)
     returns-2)

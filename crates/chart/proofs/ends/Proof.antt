@@ -42,26 +42,14 @@ small c = let p = passes c in lt-of-lt-of-le (in-chart c) (chart-small _ _ (cate
 abbrev asked : tie.After-slice-known4 → tie.After-s
 asked c = c .before .before .before .before .before .before .before .before
 
-checked-requires : tie.Need-checked-requires
-checked-requires c κs = search needs
-
-enum-known-refusal : tie.Need-enum-known-refusal
-enum-known-refusal c = search needs
-
 returns : tie.Need-returns
 returns c =
     let a = c .before .before .before .before .before .before .before .before .args in
     let asked = Start (a .category) (a .start) in
     ends-turned _ _ _ _ _ _ _ (checked-refused (readOf (now (a .g))) (grammarGiven (now (a .g))) (now (a .line)) asked (now (a .words)) (now (a .depths)) Passed Passed _ (sym (c .before .before .before .checked .ensures) ∙ c .before .refusal .given .1))
 
-enum-known-s : tie.Need-enum-known-s
-enum-known-s c = search needs
-
 fill-requires : tie.Need-fill-requires
 fill-requires c κs = let p = passes (c .before .before .before) in (sections p, line-is p, memory-is p .0, memory-is p .1)
-
-add-row : tie.Need-add-row
-add-row c = search needs
 
 mul-row : tie.Need-mul-row
 mul-row c = omega (arith, small (asked c))
@@ -78,18 +66,6 @@ slice-read-row c =
     let filled = c .before .before .before .before .before .fill .ensures in
     omega (arith, in-chart s, memory-is (passes s) .0, filled .work .words-long)
 
-count-requires : tie.Need-count-requires
-count-requires c κs = search needs
-
-first-requires : tie.Need-first-requires
-first-requires c κs = search needs
-
-same-length : tie.Need-same-length
-same-length c = search needs
-
-same-length-2 : tie.Need-same-length-2
-same-length-2 c = search needs
-
 returns-2 : tie.Need-returns-2
 returns-2 c =
     let s = c .before .before .before .before .before .before .before .before .before .before .before in
@@ -101,18 +77,14 @@ pub ends-spec : {M : Type 1} → statement M
 ends-spec =
     tie.close
     (tie.spec
-    checked-requires
-    enum-known-refusal
+    (search needs) (search needs)
     returns
-    enum-known-s
+    (search needs)
     fill-requires
-    add-row
+    (search needs)
     mul-row
     add-row-2
     mul-row-2
     slice-read-row
-    count-requires
-    first-requires
-    same-length
-    same-length-2
+    (search needs) (search needs) (search needs) (search needs)
     returns-2)
