@@ -26,29 +26,14 @@ passes c = checked-accepted _ _ _ _ _ _ (sym (c .before .before .checked .ensure
 abbrev asked : tie.After-fill → tie.After-s
 asked c = c .before .before .before .before
 
-checked-requires : tie.Need-checked-requires
-checked-requires c κs = search needs
-
-enum-known-refusal : tie.Need-enum-known-refusal
-enum-known-refusal c = search needs
-
 returns : tie.Need-returns
 returns c =
     let a = c .before .before .before .before .before .before .before .before .before .args in
     let room = marksRoom (now (a .line)) (now (a .marks)) in
     marks-turned _ _ _ _ _ _ (checked-refused (readOf (now (a .g))) (grammarGiven (now (a .g))) (now (a .line)) Nothing (now (a .words)) (now (a .depths)) Passed room _ (sym (c .before .before .before .checked .ensures) ∙ c .before .refusal .given .1))
 
-enum-known-s : tie.Need-enum-known-s
-enum-known-s c = search needs
-
 fill-requires : tie.Need-fill-requires
 fill-requires c κs = let p = passes (c .before .before .before) in (sections p, line-is p, memory-is p .0, memory-is p .1)
-
-same-length : tie.Need-same-length
-same-length c = search needs
-
-same-length-2 : tie.Need-same-length-2
-same-length-2 c = search needs
 
 returns-2 : tie.Need-returns-2
 returns-2 c =
@@ -63,15 +48,6 @@ mark-tokens-requires c κs =
     let room = le-trans (memory-is p .0) (le-of-eq (sym (f .words-long))) in
     (sections p, line-is p, record { room = rw (category-count _ _ (sections p)) room; word = f .word }, c .before .before .if1 .left)
 
-same-length-3 : tie.Need-same-length-3
-same-length-3 c = search needs
-
-same-length-4 : tie.Need-same-length-4
-same-length-4 c = search needs
-
-same-length-5 : tie.Need-same-length-5
-same-length-5 c = search needs
-
 returns-3 : tie.Need-returns-3
 returns-3 c =
     let room = c .before .before .before .before .before in
@@ -82,16 +58,12 @@ pub marks-spec : {M : Type 1} → statement M
 marks-spec =
     tie.close
     (tie.spec
-    checked-requires
-    enum-known-refusal
+    (search needs) (search needs)
     returns
-    enum-known-s
+    (search needs)
     fill-requires
-    same-length
-    same-length-2
+    (search needs) (search needs)
     returns-2
     mark-tokens-requires
-    same-length-3
-    same-length-4
-    same-length-5
+    (search needs) (search needs) (search needs)
     returns-3)

@@ -45,9 +45,6 @@ few c =
 loop-holds : tie.Need-loop-holds Inv-loop μ-loop
 loop-holds c = let e = c .before .before in (search needs, reach-none (grammar e) (now (e .args .words)) (e .args .width) (e .args .start) (e .args .far))
 
-category-flag-requires : tie.Need-category-flag-requires Inv-loop μ-loop
-category-flag-requires c κs = search needs
-
 mul-reach-of : tie.Need-mul-reach-of Inv-loop μ-loop
 mul-reach-of c = omega (arith, few (c .before .before))
 
@@ -59,15 +56,6 @@ mul-reach-of-2 c = omega (arith, few (c .before .before))
 
 shared-slice-read-reach-of : tie.Need-shared-slice-read-reach-of Inv-loop μ-loop
 shared-slice-read-reach-of c = inside (c .before .before .before)
-
-reach-of-requires : tie.Need-reach-of-requires Inv-loop μ-loop
-reach-of-requires c κs = search needs
-
-add-a : tie.Need-add-a Inv-loop μ-loop
-add-a c = search needs
-
-loop-less : tie.Need-loop-less Inv-loop μ-loop
-loop-less c = search needs
 
 loop-again : tie.Need-loop-again Inv-loop μ-loop
 loop-again c =
@@ -94,13 +82,11 @@ reach-from-spec =
     Inv-loop
     μ-loop
     loop-holds
-    category-flag-requires
+    (λ c κs. search needs)
     mul-reach-of
     add-reach-of
     mul-reach-of-2
     shared-slice-read-reach-of
-    reach-of-requires
-    add-a
-    loop-less
+    (search needs) (search needs) (search needs)
     loop-again
     returns)
