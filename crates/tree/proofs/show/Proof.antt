@@ -42,9 +42,6 @@ returns-2 c = show-small _ _ _ _ _ (given-proper _ _ (c .before .before .before 
 write-requires : tie.Need-write-requires
 write-requires c κs = (ready (c .before .before .before .before .before), node (c .before .before .before .before .before .before), has-room _ _ _ _ _ (given-proper _ _ (c .before .before .before .before .before .before .before .before .before .before .before .before .before .pre .0)) (now (c .before .before .before .before .before .before .before .before .before .before .before .before .before .args .out)) _ _ (node (c .before .before .before .before .before .before)) (c .before .before .before .count-nodes .ensures) (c .before .before .if2 .left))
 
-same-length : tie.Need-same-length
-same-length c = search needs
-
 returns-3 : tie.Need-returns-3
 returns-3 c = show-all _ _ _ _ _ (given-proper _ _ (c .before .before .before .before .before .before .before .before .before .before .before .before .before .before .before .before .pre .0)) _ _ _ (node (c .before .before .before .before .before .before .before .before .before)) (c .before .before .before .before .before .before .count-nodes .ensures) _ (c .before .before .before .before .before .if2 .left) (c .before .before .write .ensures .1)
 
@@ -58,5 +55,5 @@ show-spec =
     count-nodes-requires
     returns-2
     write-requires
-    same-length
+    (search needs)
     returns-3)

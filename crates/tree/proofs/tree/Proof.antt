@@ -26,21 +26,12 @@ passes c = checked-accepted _ _ _ _ _ _ (sym (c .before .before .checked .ensure
 abbrev asked : tie.After-fill → tie.After-s
 asked c = c .before .before .before .before
 
-checked-requires : tie.Need-checked-requires
-checked-requires c κs = search needs
-
-enum-known-refusal : tie.Need-enum-known-refusal
-enum-known-refusal c = search needs
-
 returns : tie.Need-returns
 returns c =
     let a = c .before .before .before .before .before .before .before .before .before .args in
     let asked = Span (a .category) (a .start) (a .end) in
     let G = grammarGiven (now (a .g)) in
     tree-turned _ _ _ _ _ _ _ _ _ (checked-refused (readOf (now (a .g))) G (now (a .line)) asked (now (a .words)) (now (a .depths)) Passed Passed _ (sym (c .before .before .before .checked .ensures) ∙ c .before .refusal .given .1))
-
-enum-known-s : tie.Need-enum-known-s
-enum-known-s c = search needs
 
 fill-requires : tie.Need-fill-requires
 fill-requires c κs = let p = passes (c .before .before .before) in (sections p, line-is p, memory-is p .0, memory-is p .1)
@@ -53,15 +44,6 @@ show-requires c κs =
     let work = filled .fill .ensures .work in
     (p .read, line-is p .short, span .0, span .1, span .2, rw (work .depths-long) (memory-is p .1), filled-kept p work, rw (work .words-long) (memory-is p .0), filled-rows p work)
 
-same-length : tie.Need-same-length
-same-length c = search needs
-
-same-length-2 : tie.Need-same-length-2
-same-length-2 c = search needs
-
-same-length-3 : tie.Need-same-length-3
-same-length-3 c = search needs
-
 returns-2 : tie.Need-returns-2
 returns-2 c =
     let filled = c .before .before .before .before .before .before .before .before .before .before in
@@ -71,13 +53,10 @@ pub tree-spec : {M : Type 1} → statement M
 tree-spec =
     tie.close
     (tie.spec
-    checked-requires
-    enum-known-refusal
+    (search needs) (search needs)
     returns
-    enum-known-s
+    (search needs)
     fill-requires
     show-requires
-    same-length
-    same-length-2
-    same-length-3
+    (search needs) (search needs) (search needs)
     returns-2)

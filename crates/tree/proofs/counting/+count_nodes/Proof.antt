@@ -98,9 +98,6 @@ module _ (t : ℕ) where
   returns : lts.Need-returns (claims t) (at t) count-nodes.Post Inv-loop μ-loop
   returns c = counting-over (c .if1 .taken) (c .before .before .loop .inv .counting)
 
-  shared-slice-read-symbol : lts.Need-shared-slice-read-symbol (claims t) (at t) count-nodes.Post Inv-loop μ-loop
-  shared-slice-read-symbol c = search needs
-
   cast-symbol : lts.Need-cast-symbol (claims t) (at t) count-nodes.Post Inv-loop μ-loop
   cast-symbol c = omega (arith, c .shared-slice-known5 .given (c .before .before .before .loop .d))
 
@@ -173,7 +170,7 @@ pub +count-nodes-spec : {M : Type 1} → statement M
     (rule-symbols-requires t)
     (loop-holds t)
     (returns t)
-    (shared-slice-read-symbol t)
+    (search needs)
     (cast-symbol t)
     (add-count t)
     (mul-m t)

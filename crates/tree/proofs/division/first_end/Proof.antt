@@ -22,9 +22,6 @@ module _ (c : tie.Then1) where
   first-depth : ((asked .args .symbol - 128) * (length (now (asked .args .line)) + 1) + asked .args .start) * (length (now (asked .args .line)) + 1) + 0 < length (now (asked .args .depths))
   first-depth = depth-place _ _ _ _ 0 (asked .pre .1) (omega arith) (asked .pre .3 (c .if1 .taken) .1)
 
-add-width : tie.Need-add-width
-add-width c = search needs
-
 mul-row : tie.Need-mul-row
 mul-row c = omega (arith, place c)
 
@@ -54,23 +51,11 @@ returns c =
 returns-2 : tie.Need-returns-2
 returns-2 c = end-past _ _ _ _ _ _ _ (c .before .if1 .left) (c .if2 .taken)
 
-shared-slice-read-if3 : tie.Need-shared-slice-read-if3
-shared-slice-read-if3 c = search needs
-
 cast-if3 : tie.Need-cast-if3
 cast-if3 c = omega (arith, c .shared-slice-known5 .given (c .before .before .before .before .before .before .args .start))
 
 returns-3 : tie.Need-returns-3
 returns-3 c = end-other _ _ _ _ _ _ _ (c .before .before .before .if1 .left) (c .if3 .taken)
-
-add-member : tie.Need-add-member
-add-member c = search needs
-
-member-requires : tie.Need-member-requires
-member-requires c κs = search needs
-
-add-result : tie.Need-add-result
-add-result c = search needs
 
 returns-4 : tie.Need-returns-4
 returns-4 c =
@@ -84,7 +69,7 @@ pub first-end-spec : {M : Type 1} → statement M
 first-end-spec =
     tie.close
     (tie.spec
-    add-width
+    (search needs)
     mul-row
     add-row
     mul-shallow-end
@@ -93,11 +78,9 @@ first-end-spec =
     shallow-end-requires
     returns
     returns-2
-    shared-slice-read-if3
+    (search needs)
     cast-if3
     returns-3
-    add-member
-    member-requires
-    add-result
+    (search needs) (search needs) (search needs)
     returns-4
     returns-5)

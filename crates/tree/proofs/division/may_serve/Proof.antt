@@ -10,12 +10,6 @@ use Rattle.tree.proofs.DivisionLaws.{row-place, serve-other, serve-empt
 use Rattle.tree.proofs.division.may_serve.Statement.{statement}
 use Rattle.tree.proofs.division.may_serve.Tie as tie
 
-rule-left-requires : tie.Need-rule-left-requires
-rule-left-requires c κs = search needs
-
-cast-if1 : tie.Need-cast-if1
-cast-if1 c = search needs
-
 returns : tie.Need-returns
 returns c = serve-other _ _ _ _ _ _ (λ q. c .if1 .taken (c .before .rule-left .ensures ∙ q))
 
@@ -23,14 +17,8 @@ returns c = serve-other _ _ _ _ _ _ (λ q. c .if1 .taken (c .before .rule-left .
 left : (c : tie.Else1) → let a = c .before .before .before .before .before .args in standing (now (a .g)) (a .at) .left ≡ a .category
 left c = sym (c .before .rule-left .ensures) ∙ c .if1 .left
 
-rule-symbols-requires : tie.Need-rule-symbols-requires
-rule-symbols-requires c κs = search needs
-
 returns-2 : tie.Need-returns-2
 returns-2 c = serve-empty _ _ _ _ _ _ (left (c .before .before)) (ap length (sym (c .before .rule-symbols .ensures)) ∙ c .if2 .taken)
-
-shared-slice-read-symbol : tie.Need-shared-slice-read-symbol
-shared-slice-read-symbol c = search needs
 
 cast-symbol : tie.Need-cast-symbol
 cast-symbol c = omega (arith, c .shared-slice-known4 .given 0)
@@ -47,9 +35,6 @@ place c =
     let e = c .before .before .before .before .before .before .before .before .before in
     let q = c .before .before .before .rule-symbols .ensures in
     row-place _ _ _ _ (e .pre .2) (rw q (e .pre .3 (rw q at (some (c .before))) (rw q at (c .if3 .taken))))
-
-add-row : tie.Need-add-row
-add-row c = search needs
 
 mul-row : tie.Need-mul-row
 mul-row c = omega (arith, place c)
@@ -76,9 +61,6 @@ returns-4 c =
     let q = s .before .before .rule-symbols .ensures in
     serve-past _ _ _ _ _ _ (left (s .before .before .before)) (rw q at (some s)) (rw q at (c .before .if3 .left)) (c .if4 .taken)
 
-shared-slice-read-result-2 : tie.Need-shared-slice-read-result-2
-shared-slice-read-result-2 c = search needs
-
 cast-result : tie.Need-cast-result
 cast-result c = omega (arith, c .shared-slice-known6 .given (c .before .before .before .before .before .before .before .before .before .before .before .args .start))
 
@@ -92,20 +74,19 @@ pub may-serve-spec : {M : Type 1} → statement M
 may-serve-spec =
     tie.close
     (tie.spec
-    rule-left-requires
-    cast-if1
+    (search needs) (search needs)
     returns
-    rule-symbols-requires
+    (search needs)
     returns-2
-    shared-slice-read-symbol
+    (search needs)
     cast-symbol
-    add-row
+    (search needs)
     mul-row
     add-row-2
     mul-result
     shared-slice-read-result
     returns-3
     returns-4
-    shared-slice-read-result-2
+    (search needs)
     cast-result
     returns-5)

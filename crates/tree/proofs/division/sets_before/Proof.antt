@@ -21,15 +21,6 @@ abbrev μ-loop : tie.MeasureT-loop
 abbrev asked : tie.At-loop Inv-loop μ-loop → tie.Start Inv-loop μ-loop
 asked c = c .before .before .before .before .before .before
 
-insert-requires : tie.Need-insert-requires Inv-loop μ-loop
-insert-requires c κs = search needs
-
-mul-sets : tie.Need-mul-sets Inv-loop μ-loop
-mul-sets c = search needs
-
-array-write-sets : tie.Need-array-write-sets Inv-loop μ-loop
-array-write-sets c = search needs
-
 loop-holds : tie.Need-loop-holds Inv-loop μ-loop
 loop-holds c =
     let p = c .before .before .before .before .before .pre in (
@@ -42,9 +33,6 @@ returns : tie.Need-returns Inv-loop μ-loop
 returns c =
     let l = c .before .before in
     sets-empty _ _ _ _ _ _ _ (asked l .pre .3) _ _ (l .loop .inv .0) (l .loop .inv .2) (sym (l .loop .inv .1) ∙ c .if1 .taken)
-
-sub-d : tie.Need-sub-d Inv-loop μ-loop
-sub-d c = search needs
 
 -- symbol d - 1 is one of at most 8
 few : (c : tie.Else1 Inv-loop μ-loop) →
@@ -93,12 +81,10 @@ sets-before-spec =
     (tie.spec
     Inv-loop
     μ-loop
-    insert-requires
-    mul-sets
-    array-write-sets
+    (search needs) (search needs) (search needs)
     loop-holds
     returns
-    sub-d
+    (search needs)
     shared-slice-read-starts-before
     cast-starts-before
     starts-before-requires

@@ -31,12 +31,6 @@ module _ (c : tie.After-first Inv-loop μ-loop) where
 loop-holds : tie.Need-loop-holds Inv-loop μ-loop
 loop-holds c = (omega arith, λ e m. m, λ e m n. absurd (n m))
 
-first-requires : tie.Need-first-requires Inv-loop μ-loop
-first-requires c κs = search needs
-
-cast-e : tie.Need-cast-e Inv-loop μ-loop
-cast-e c = search needs
-
 add-if1 : tie.Need-add-if1 Inv-loop μ-loop
 add-if1 c = omega (arith, room c)
 
@@ -91,8 +85,7 @@ shallow-end-spec =
     Inv-loop
     μ-loop
     loop-holds
-    first-requires
-    cast-e
+    (search needs) (search needs)
     add-if1
     mul-if1
     shared-slice-read-if1

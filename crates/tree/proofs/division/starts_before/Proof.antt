@@ -27,15 +27,6 @@ first-end-requires c κs =
     let p = c .before .before .before .before .before .before .pre in
     (p .0, le-trans (c .loop-test .taken) (p .1), λ e m. le-trans (p .2 e m) (p .1), p .3)
 
-insert-requires : tie.Need-insert-requires Inv-loop μ-loop
-insert-requires c κs = search needs
-
-add-m : tie.Need-add-m Inv-loop μ-loop
-add-m c = search needs
-
-loop-less : tie.Need-loop-less Inv-loop μ-loop
-loop-less c = search needs
-
 loop-again : tie.Need-loop-again Inv-loop μ-loop
 loop-again c =
     let i = c .before .before in
@@ -60,8 +51,6 @@ starts-before-spec =
     returns
     loop-holds
     first-end-requires
-    insert-requires
-    add-m
-    loop-less
+    (search needs) (search needs) (search needs)
     loop-again
     returns-2)

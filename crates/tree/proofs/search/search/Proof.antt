@@ -40,9 +40,6 @@ module _ (c : tie.At-search Inv-loop μ-loop Inv-search μ-search) where
 sub-h : tie.Need-sub-h Inv-loop μ-loop Inv-search μ-search
 sub-h c = omega (arith, c .before .before .before .before .pre .1 .fact)
 
-search-holds : tie.Need-search-holds Inv-loop μ-loop Inv-search μ-search
-search-holds c = omega arith
-
 mul-at : tie.Need-mul-at Inv-loop μ-loop Inv-search μ-search
 mul-at c = omega (arith, few c)
 
@@ -168,7 +165,7 @@ search-spec =
     Inv-search
     μ-search
     sub-h
-    search-holds
+    (λ c. omega arith)
     mul-at
     element-copy-out-at
     may-serve-requires

@@ -134,9 +134,6 @@ module _ (t : ℕ) where
       let y = n .before .before .before in
       turn-begin _ _ _ _ _ _ _ _ _ _ (shows y) (asked (searched y) .pre .1 .2) _ _ (n .put-node .ensures .0) (rw (n .before .rule-node .ensures) at (n .put-node .ensures .1))
 
-  shared-slice-read-symbol : lts.Need-shared-slice-read-symbol (claims t) (at t) write.Post Inv-loop μ-loop
-  shared-slice-read-symbol c = search needs
-
   mul-m : lts.Need-mul-m (claims t) (at t) write.Post Inv-loop μ-loop
   mul-m c = omega (arith, few (c .before))
 
@@ -167,9 +164,6 @@ module _ (t : ℕ) where
 
   cast-b : lts.Need-cast-b (claims t) (at t) write.Post Inv-loop μ-loop
   cast-b c = let x = c .before .before .before in omega (arith, x .shared-slice-known5 .given (x .before .before .loop .d))
-
-  sub-b : lts.Need-sub-b (claims t) (at t) write.Post Inv-loop μ-loop
-  sub-b c = search needs
 
   depth-at-requires : lts.Need-depth-at-requires (claims t) (at t) write.Post Inv-loop μ-loop
   depth-at-requires c κs =
@@ -229,7 +223,7 @@ pub +write-spec : {M : Type 1} → statement M
     (rule-node-requires t)
     (put-node-requires t)
     (loop-holds t)
-    (shared-slice-read-symbol t)
+    (search needs)
     (mul-m t)
     (element-copy-out-m t)
     (add-e t)
@@ -238,7 +232,7 @@ pub +write-spec : {M : Type 1} → statement M
     (token-node-requires t)
     (put-node-requires-2 t)
     (cast-b t)
-    (sub-b t)
+    (search needs)
     (depth-at-requires t)
     (write-requires t)
     (add-d t)
