@@ -79,12 +79,6 @@ seek-record-requires c κs =
     let s = asked (c .before .before .before) .pre in
     (s .0, omega (arith, s .1 .rule .below), s .1 .rule .found .place, omega (arith, s .1 .first, s .1 .last, long s), omega (arith, s .1 .start))
 
-enum-known-r : tie.Need-enum-known-r
-enum-known-r c = search needs
-
-enum-told : tie.Need-enum-told
-enum-told c = search needs
-
 returns-3 : tie.Need-returns-3
 returns-3 c =
     let k = c .before .before .before in
@@ -116,7 +110,6 @@ next-spec =
     returns-2
     add-seek-record
     seek-record-requires
-    enum-known-r
-    enum-told
+    (search needs) (search needs)
     returns-3
     returns-4)

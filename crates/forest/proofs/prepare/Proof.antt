@@ -28,19 +28,10 @@ asked c = c .before .before .before .before
 abbrev room : tie.After-fill → ℕ
 room c = origin (asked c) .args .room
 
-checked-requires : tie.Need-checked-requires
-checked-requires c κs = search needs
-
-enum-known-refusal : tie.Need-enum-known-refusal
-enum-known-refusal c = search needs
-
 returns : tie.Need-returns
 returns c =
     let a = c .before .before .before .before .before .before .before .before .args in
     plan-turned _ _ _ _ _ _ _ (checked-refused (readOf (now (a .g))) (grammarGiven (now (a .g))) (now (a .line)) Nothing (now (a .words)) (now (a .depths)) Passed Passed _ (sym (c .before .before .before .checked .ensures) ∙ c .before .refusal .given .1))
-
-enum-known-s : tie.Need-enum-known-s
-enum-known-s c = search needs
 
 fill-requires : tie.Need-fill-requires
 fill-requires c κs = let p = passes (c .before .before .before) in (sections p, line-is p, memory-is p .0, memory-is p .1)
@@ -51,12 +42,6 @@ count-records-requires c κs =
     let p = passes (asked f) in
     let work = f .fill .ensures .work in
     (charted _ _ _ _ (room f) _ p _ _ work, sections-are _ _ _ _ (room f) _ p _ _ work)
-
-same-length : tie.Need-same-length
-same-length c = search needs
-
-same-length-2 : tie.Need-same-length-2
-same-length-2 c = search needs
 
 returns-2 : tie.Need-returns-2
 returns-2 c =
@@ -70,30 +55,12 @@ seek-record-requires c κs =
     let work = f .fill .ensures .work in
     (charted _ _ _ _ (room f) _ p _ _ work, omega arith, first-stands _ _ _ _ (room f) _ p _ _ work, omega arith, omega arith)
 
-enum-known-first : tie.Need-enum-known-first
-enum-known-first c = search needs
-
-enum-told : tie.Need-enum-told
-enum-told c = search needs
-
-same-length-3 : tie.Need-same-length-3
-same-length-3 c = search needs
-
-same-length-4 : tie.Need-same-length-4
-same-length-4 c = search needs
-
 returns-3 : tie.Need-returns-3
 returns-3 c =
     let k = c .before .before .before in
     let i = k .before .before in
     let f = i .before .before .before .before .before .before .before in
     plan-found _ _ _ _ (room f) _ (passes (asked f)) _ _ (f .fill .ensures .work) _ (i .before .count-records .ensures) _ (i .if1 .left) (rw (c .before .first .given .1) at (k .seek-record .ensures))
-
-same-length-5 : tie.Need-same-length-5
-same-length-5 c = search needs
-
-same-length-6 : tie.Need-same-length-6
-same-length-6 c = search needs
 
 returns-4 : tie.Need-returns-4
 returns-4 c =
@@ -106,21 +73,15 @@ pub prepare-spec : {M : Type 1} → statement M
 prepare-spec =
     tie.close
     (tie.spec
-    checked-requires
-    enum-known-refusal
+    (search needs) (search needs)
     returns
-    enum-known-s
+    (search needs)
     fill-requires
     count-records-requires
-    same-length
-    same-length-2
+    (search needs) (search needs)
     returns-2
     seek-record-requires
-    enum-known-first
-    enum-told
-    same-length-3
-    same-length-4
+    (search needs) (search needs) (search needs) (search needs)
     returns-3
-    same-length-5
-    same-length-6
+    (search needs) (search needs)
     returns-4)

@@ -71,12 +71,6 @@ add-records c =
 rule-after-requires : tie.Need-rule-after-requires Inv-loop μ-loop
 rule-after-requires c κs = here (c .before) .found .stands
 
-add-p : tie.Need-add-p Inv-loop μ-loop
-add-p c = search needs
-
-loop-less : tie.Need-loop-less Inv-loop μ-loop
-loop-less c = search needs
-
 loop-again : tie.Need-loop-again Inv-loop μ-loop
 loop-again c =
     let i = c .before .before in
@@ -104,7 +98,6 @@ count-records-spec =
     count-rule-requires
     add-records
     rule-after-requires
-    add-p
-    loop-less
+    (search needs) (search needs)
     loop-again
     returns)

@@ -43,12 +43,6 @@ add-records c =
     let few = rule-le (grammarGiven (now (a .g))) (now (a .line)) symbols (e .pre .0 .isLine .short) (l .d + 1) (omega (arith, c .before .loop-test .taken, turn .before .rule-length .ensures .1)) in
     omega (arith, c .count-place .ensures, l .inv .1, total-next (placeCount (grammarGiven (now (a .g))) (now (a .line)) symbols) (l .d), few)
 
-add-d : tie.Need-add-d Inv-loop μ-loop
-add-d c = search needs
-
-loop-less : tie.Need-loop-less Inv-loop μ-loop
-loop-less c = search needs
-
 loop-again : tie.Need-loop-again Inv-loop μ-loop
 loop-again c =
     let turn = c .before .before in
@@ -73,7 +67,6 @@ count-rule-spec =
     loop-holds
     count-place-requires
     add-records
-    add-d
-    loop-less
+    (search needs) (search needs)
     loop-again
     returns)

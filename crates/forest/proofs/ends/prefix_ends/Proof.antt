@@ -30,12 +30,6 @@ step-ends-requires c κs =
     let p = entry l .pre in
     (p .0, p .1, omega (arith, c .loop-test .taken, p .2), prefix-inside _ _ _ _ (l .loop .k) _ (l .loop .inv .1))
 
-add-k : tie.Need-add-k Inv-loop μ-loop
-add-k c = search needs
-
-loop-less : tie.Need-loop-less Inv-loop μ-loop
-loop-less c = search needs
-
 loop-again : tie.Need-loop-again Inv-loop μ-loop
 loop-again c =
     let l = c .before .before in
@@ -56,7 +50,6 @@ prefix-ends-spec =
     insert-requires
     loop-holds
     step-ends-requires
-    add-k
-    loop-less
+    (search needs) (search needs)
     loop-again
     returns)

@@ -33,9 +33,6 @@ symbol c = omega (arith, c .if1 .left, c .before .rule-length .ensures .0)
 rule-long : (c : tie.Else1 Inv-loop μ-loop) → length (standing (now (entry (c .before .before) .args .g)) (c .before .before .before .loop .a) .right) ≤ 8
 rule-long c = omega (arith, c .before .rule-length .ensures .0, c .before .rule-length .ensures .1)
 
-add-width : tie.Need-add-width Inv-loop μ-loop
-add-width c = search needs
-
 loop-holds : tie.Need-loop-holds Inv-loop μ-loop
 loop-holds c = let e = c .before .before .before in record { few = e .pre .1; place = e .pre .2; low = omega (arith, e .pre .3); inside = e .pre .4; same = refl }
 
@@ -78,9 +75,6 @@ returns c =
     let i = t .before .before .before in
     search-found _ _ _ (entry i .pre .0) _ _ _ _ _ _ _ (i .before .loop .inv) (here i) (symbol (t .before)) (omega (arith, t .if2 .taken)) _ (s .before .prefix-ends .ensures) _ (s .seek-middle .ensures) (omega (arith, c .before .if3 .taken)) _ (c .stand .ensures)
 
-add-i : tie.Need-add-i Inv-loop μ-loop
-add-i c = search needs
-
 loop-less-2 : tie.Need-loop-less-2 Inv-loop μ-loop
 loop-less-2 c = let t = c .before .before .before in omega (arith, t .if2 .taken, entry (t .before .before .before) .pre .0 .isLine .short)
 
@@ -111,7 +105,7 @@ seek-record-spec =
     (tie.spec
     Inv-loop
     μ-loop
-    add-width
+    (search needs)
     loop-holds
     rule-length-requires
     rule-after-requires
@@ -122,7 +116,7 @@ seek-record-spec =
     seek-middle-requires
     stand-requires
     returns
-    add-i
+    (search needs)
     loop-less-2
     loop-again-2
     add-e
