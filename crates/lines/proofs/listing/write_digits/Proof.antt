@@ -27,21 +27,12 @@ shared-slice-read-out c = omega (arith, c .before .before .before .pre .0)
 add-out : tie.Need-add-out Inv-loop μ-loop
 add-out c = omega (arith, c .before .before .before .pre .2 (c .before .before .loop .t) (c .before .loop-test .taken))
 
-add-out-2 : tie.Need-add-out-2 Inv-loop μ-loop
-add-out-2 c = search needs
-
 slice-write-out : tie.Need-slice-write-out Inv-loop μ-loop
 slice-write-out c =
     let l = c .before .before .loop in
     let pre = c .before .before .before .pre in
     let long = stored-long (omega (arith, digits-long (c .before .before .before .args .marks .now) (l .t) (omega (arith, l .inv .0, pre .0)), l .inv .0, pre .1)) (l .inv .1) in
     omega (arith, long, pre .1, c .before .loop-test .taken)
-
-add-t : tie.Need-add-t Inv-loop μ-loop
-add-t c = search needs
-
-loop-less : tie.Need-loop-less Inv-loop μ-loop
-loop-less c = search needs
 
 loop-again : tie.Need-loop-again Inv-loop μ-loop
 loop-again c =
@@ -50,9 +41,6 @@ loop-again c =
     let marks = c .before .before .before .args .marks .now in
     let part = digits-long marks (l .t) (omega (arith, l .inv .0, pre .0)) in
     (omega arith, rw (digits-more marks (l .t) (omega (arith, pre .0, c .before .loop-test .taken)), ← add-assoc) (stored-more _ (omega (arith, part, pre .1, c .before .loop-test .taken)) (l .inv .1)))
-
-add-result : tie.Need-add-result Inv-loop μ-loop
-add-result c = search needs
 
 same-length : tie.Need-same-length Inv-loop μ-loop
 same-length c =
@@ -75,11 +63,10 @@ write-digits-spec =
     loop-holds
     shared-slice-read-out
     add-out
-    add-out-2
+    (search needs)
     slice-write-out
-    add-t
-    loop-less
+    (search needs) (search needs)
     loop-again
-    add-result
+    (search needs)
     same-length
     returns)

@@ -25,26 +25,8 @@ few c k l = let a = c .before .before .args in fact-few (a .depths .now) (a .wid
 loop-holds : tie.Need-loop-holds Inv-loop μ-loop
 loop-holds c = let start = c .before .before in (omega arith, gather-none 29 _ (factLineAt (start .args .depths .now) (start .args .width)) (few c) (start .pre .3))
 
-div-row : tie.Need-div-row Inv-loop μ-loop
-div-row c = search needs
-
-mul-depth : tie.Need-mul-depth Inv-loop μ-loop
-mul-depth c = search needs
-
-shared-slice-read-depth : tie.Need-shared-slice-read-depth Inv-loop μ-loop
-shared-slice-read-depth c = search needs
-
 cast-depth : tie.Need-cast-depth Inv-loop μ-loop
 cast-depth c = omega (arith, c .shared-slice-known2 .given (c .before .before .loop .q))
-
-div-write-fact : tie.Need-div-write-fact Inv-loop μ-loop
-div-write-fact c = search needs
-
-rem-write-fact : tie.Need-rem-write-fact Inv-loop μ-loop
-rem-write-fact c = search needs
-
-rem-write-fact-2 : tie.Need-rem-write-fact-2 Inv-loop μ-loop
-rem-write-fact-2 c = search needs
 
 write-fact-requires : tie.Need-write-fact-requires Inv-loop μ-loop
 write-fact-requires c κs =
@@ -59,12 +41,6 @@ write-fact-requires c κs =
       omega (arith, c .before .shared-slice-known2 .given q),
       gather-room 29 _ (factLineAt (start .args .depths .now) w) (few (here .before)) (start .pre .3) (here .loop .inv .1) (c .before .before .loop-test .taken),
     )
-
-add-q : tie.Need-add-q Inv-loop μ-loop
-add-q c = search needs
-
-loop-less : tie.Need-loop-less Inv-loop μ-loop
-loop-less c = search needs
 
 loop-again : tie.Need-loop-again Inv-loop μ-loop
 loop-again c =
@@ -92,16 +68,11 @@ write-facts-spec =
     Inv-loop
     μ-loop
     loop-holds
-    div-row
-    mul-depth
-    shared-slice-read-depth
+    (search needs) (search needs) (search needs)
     cast-depth
-    div-write-fact
-    rem-write-fact
-    rem-write-fact-2
+    (search needs) (search needs) (search needs)
     write-fact-requires
-    add-q
-    loop-less
+    (search needs) (search needs)
     loop-again
     same-length
     returns)

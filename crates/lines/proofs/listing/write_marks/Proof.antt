@@ -22,18 +22,6 @@ word c = c .before .before .before .before .before
 abbrev space : tie.After-write-digits → tie.After-write-byte2
 space c = c .before .before .before .before
 
-slice-aggregate-write-bytes : tie.Need-slice-aggregate-write-bytes
-slice-aggregate-write-bytes c = search needs
-
-write-bytes-requires : tie.Need-write-bytes-requires
-write-bytes-requires c κs = search needs
-
-write-byte-requires : tie.Need-write-byte-requires
-write-byte-requires c κs = search needs
-
-same-length : tie.Need-same-length
-same-length c = search needs
-
 returns : tie.Need-returns
 unfolding text
 returns c =
@@ -41,17 +29,8 @@ returns c =
     let e : entry begun .args .n ≡ 0 = omega arith in
     rw (e, sym marks-none) (stored-then (omega arith) (begun .write-bytes .ensures) (c .before .before .write-byte .ensures))
 
-write-byte-requires-2 : tie.Need-write-byte-requires-2
-write-byte-requires-2 c κs = search needs
-
-write-digits-requires : tie.Need-write-digits-requires
-write-digits-requires c κs = search needs
-
 write-byte-requires-3 : tie.Need-write-byte-requires-3
 write-byte-requires-3 c κs = let start = entry (word (space (c .before .before .before))) in omega (arith, digits-long (start .args .marks .now) (start .args .n) (start .pre .0))
-
-same-length-2 : tie.Need-same-length-2
-same-length-2 c = search needs
 
 returns-2 : tie.Need-returns-2
 unfolding text
@@ -70,13 +49,10 @@ pub write-marks-spec : {M : Type 1} → statement M
 write-marks-spec =
     tie.close
     (tie.spec
-    slice-aggregate-write-bytes
-    write-bytes-requires
-    write-byte-requires
-    same-length
+    (search needs) (search needs) (search needs) (search needs)
     returns
-    write-byte-requires-2
-    write-digits-requires
+    (search needs)
+    (λ c κs. search needs)
     write-byte-requires-3
-    same-length-2
+    (search needs)
     returns-2)

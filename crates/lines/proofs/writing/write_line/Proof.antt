@@ -29,9 +29,6 @@ write-numbers-requires c κs = let begun = c .before .before .before .before in 
 write-byte-requires : tie.Need-write-byte-requires
 write-byte-requires c κs = let begun = c .before .before .before .before .before .before .before .before in omega (arith, room begun)
 
-same-length : tie.Need-same-length
-same-length c = search needs
-
 returns : tie.Need-returns
 returns c =
     let numbers = c .before .before .before .before .before .before in
@@ -42,4 +39,4 @@ returns c =
 pub write-line-spec : {M : Type 1} → statement M
 write-line-spec =
     tie.close
-    (tie.spec write-bytes-requires write-numbers-requires write-byte-requires same-length returns)
+    (tie.spec write-bytes-requires write-numbers-requires write-byte-requires (search needs) returns)

@@ -38,20 +38,8 @@ loop-holds c = (omega arith, begin (c .before .before .args .numbers .now))
 write-byte-requires : tie.Need-write-byte-requires Inv-loop μ-loop
 write-byte-requires c κs = let here = c .before .before in omega (arith, long here, numbers-room (entry here .args .numbers .now) (here .loop .i) (c .before .loop-test .taken))
 
-mul-write-decimal : tie.Need-mul-write-decimal Inv-loop μ-loop
-mul-write-decimal c = search needs
-
-shared-slice-read-write-decimal : tie.Need-shared-slice-read-write-decimal Inv-loop μ-loop
-shared-slice-read-write-decimal c = search needs
-
 write-decimal-requires : tie.Need-write-decimal-requires Inv-loop μ-loop
 write-decimal-requires c κs = let here = turn (c .before .before .before .before) in omega (arith, long here, numbers-room (entry here .args .numbers .now) (here .loop .i) (omega arith))
-
-add-i : tie.Need-add-i Inv-loop μ-loop
-add-i c = search needs
-
-loop-less : tie.Need-loop-less Inv-loop μ-loop
-loop-less c = search needs
 
 loop-again : tie.Need-loop-again Inv-loop μ-loop
 loop-again c =
@@ -74,11 +62,9 @@ write-numbers-spec =
     μ-loop
     loop-holds
     write-byte-requires
-    mul-write-decimal
-    shared-slice-read-write-decimal
+    (search needs) (search needs)
     write-decimal-requires
-    add-i
-    loop-less
+    (search needs) (search needs)
     loop-again
     same-length
     returns)

@@ -29,35 +29,17 @@ other c = c .before .before .before .before .before
 few : (c : tie.Start) → (length (spaced (decimal (c .args .rounds) ∷ [])) ≤ 21) × (length (spaced (decimal (c .args .facts) ∷ [])) ≤ 21) × (64 ≤ length (now (c .args .out)))
 few c = (one-few 19 _ (omega arith), one-few 19 _ (omega arith), c .pre)
 
-slice-aggregate-write-bytes : tie.Need-slice-aggregate-write-bytes
-slice-aggregate-write-bytes c = search needs
-
-write-bytes-requires : tie.Need-write-bytes-requires
-write-bytes-requires c κs = search needs
-
-slice-aggregate-write-numbers : tie.Need-slice-aggregate-write-numbers
-slice-aggregate-write-numbers c = search needs
-
 write-numbers-requires : tie.Need-write-numbers-requires
 write-numbers-requires c κs = let begun = c .before .before .before .before in (omega arith, omega (arith, few (entry begun)))
 
-slice-aggregate-write-bytes-2 : tie.Need-slice-aggregate-write-bytes-2
-slice-aggregate-write-bytes-2 c = search needs
-
 write-bytes-requires-2 : tie.Need-write-bytes-requires-2
 write-bytes-requires-2 c κs = let rounds = c .before .before .before .before in omega (arith, few (entry (word rounds)))
-
-slice-aggregate-write-numbers-2 : tie.Need-slice-aggregate-write-numbers-2
-slice-aggregate-write-numbers-2 c = search needs
 
 write-numbers-requires-2 : tie.Need-write-numbers-requires-2
 write-numbers-requires-2 c κs = let between = c .before .before .before .before in (omega arith, omega (arith, few (entry (word (first between)))))
 
 write-byte-requires : tie.Need-write-byte-requires
 write-byte-requires c κs = omega (arith, few (entry (word (first (other (c .before .before .before))))))
-
-same-length : tie.Need-same-length
-same-length c = search needs
 
 returns : tie.Need-returns
 unfolding text
@@ -78,14 +60,12 @@ pub write-rounds-spec : {M : Type 1} → statement M
 write-rounds-spec =
     tie.close
     (tie.spec
-    slice-aggregate-write-bytes
-    write-bytes-requires
-    slice-aggregate-write-numbers
+    (search needs) (search needs) (search needs)
     write-numbers-requires
-    slice-aggregate-write-bytes-2
+    (search needs)
     write-bytes-requires-2
-    slice-aggregate-write-numbers-2
+    (search needs)
     write-numbers-requires-2
     write-byte-requires
-    same-length
+    (search needs)
     returns)
