@@ -20,9 +20,6 @@ returns c =
 refused-line-requires : tie.Need-refused-line-requires
 refused-line-requires c κs = omega (arith, c .before .before .before .pre)
 
-same-length : tie.Need-same-length
-same-length c = search needs
-
 returns-2 : tie.Need-returns-2
 returns-2 c =
     let a = c .before .before .before .before .before .before .args in
@@ -30,4 +27,4 @@ returns-2 c =
     rw e (piece-stored (refusedLine (a .refusal) ∷ []) 0 false refl (refusedLine (a .refusal)) refl (c .before .before .refused-line .ensures .0))
 
 pub refused-piece-spec : {M : Type 1} → statement M
-refused-piece-spec = tie.close (tie.spec returns refused-line-requires same-length returns-2)
+refused-piece-spec = tie.close (tie.spec returns refused-line-requires (search needs) returns-2)

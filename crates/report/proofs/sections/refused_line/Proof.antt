@@ -8,23 +8,8 @@ use Rattle.report.specs.Printed.{refusedLine}
 use Rattle.report.proofs.sections.refused_line.Statement.{statement}
 use Rattle.report.proofs.sections.refused_line.Tie as tie
 
-row-of-requires : tie.Need-row-of-requires
-row-of-requires c κs = search needs
-
-cast-t7 : tie.Need-cast-t7
-cast-t7 c = search needs
-
-slice-aggregate-write-line : tie.Need-slice-aggregate-write-line
-slice-aggregate-write-line c = search needs
-
-slice-aggregate-write-line-2 : tie.Need-slice-aggregate-write-line-2
-slice-aggregate-write-line-2 c = search needs
-
 write-line-requires : tie.Need-write-line-requires
 write-line-requires c κs = let row = c .before .before .before .before .row-of .result in (omega arith, omega (arith, two-few 19 (row .number) (row .place) (omega arith) (omega arith)))
-
-same-length : tie.Need-same-length
-same-length c = search needs
 
 returns : tie.Need-returns
 unfolding refusedLine numbered lineOf text
@@ -37,10 +22,7 @@ pub refused-line-spec : {M : Type 1} → statement M
 refused-line-spec =
     tie.close
     (tie.spec
-    row-of-requires
-    cast-t7
-    slice-aggregate-write-line
-    slice-aggregate-write-line-2
+    (search needs) (search needs) (search needs) (search needs)
     write-line-requires
-    same-length
+    (search needs)
     returns)
