@@ -5,60 +5,6 @@ use Rattle.refusals.specs.Row.{rowOf}
 use Rattle.refusals.proofs.row_of.Statement.{statement}
 use Rattle.refusals.proofs.row_of.Tie as tie
 
-enum-known-refusal : tie.Need-enum-known-refusal
-enum-known-refusal c = search needs
-
-enum-known-refusal-2 : tie.Need-enum-known-refusal-2
-enum-known-refusal-2 c = search needs
-
-enum-known-refusal-3 : tie.Need-enum-known-refusal-3
-enum-known-refusal-3 c = search needs
-
-enum-known-refusal-4 : tie.Need-enum-known-refusal-4
-enum-known-refusal-4 c = search needs
-
-enum-known-refusal-5 : tie.Need-enum-known-refusal-5
-enum-known-refusal-5 c = search needs
-
-enum-told : tie.Need-enum-told
-enum-told c = search needs
-
-enum-known-refusal-6 : tie.Need-enum-known-refusal-6
-enum-known-refusal-6 c = search needs
-
-enum-told-2 : tie.Need-enum-told-2
-enum-told-2 c = search needs
-
-enum-told-3 : tie.Need-enum-told-3
-enum-told-3 c = search needs
-
-enum-told-4 : tie.Need-enum-told-4
-enum-told-4 c = search needs
-
-enum-told-5 : tie.Need-enum-told-5
-enum-told-5 c = search needs
-
-enum-told-6 : tie.Need-enum-told-6
-enum-told-6 c = search needs
-
-enum-told-7 : tie.Need-enum-told-7
-enum-told-7 c = search needs
-
-enum-known-refusal-7 : tie.Need-enum-known-refusal-7
-enum-known-refusal-7 c = search needs
-
-enum-known-refusal-8 : tie.Need-enum-known-refusal-8
-enum-known-refusal-8 c = search needs
-
-enum-told-8 : tie.Need-enum-told-8
-enum-told-8 c = search needs
-
-enum-told-9 : tie.Need-enum-told-9
-enum-told-9 c = search needs
-
-enum-known-refusal-9 : tie.Need-enum-known-refusal-9
-enum-known-refusal-9 c = search needs
-
 returns : tie.Need-returns
 returns c = sym (ap rowOf (c .before .refusal .given .1))
 
@@ -117,24 +63,9 @@ pub row-of-spec : {M : Type 1} → statement M
 row-of-spec =
     tie.close
     (tie.spec
-    enum-known-refusal
-    enum-known-refusal-2
-    enum-known-refusal-3
-    enum-known-refusal-4
-    enum-known-refusal-5
-    enum-told
-    enum-known-refusal-6
-    enum-told-2
-    enum-told-3
-    enum-told-4
-    enum-told-5
-    enum-told-6
-    enum-told-7
-    enum-known-refusal-7
-    enum-known-refusal-8
-    enum-told-8
-    enum-told-9
-    enum-known-refusal-9
+    (search needs) (search needs) (search needs) (search needs) (search needs) (search needs) (search needs)
+    (search needs) (search needs) (search needs) (search needs) (search needs) (search needs) (search needs)
+    (search needs) (search needs) (search needs) (search needs)
     returns
     returns-2
     returns-3
