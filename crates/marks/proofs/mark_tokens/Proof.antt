@@ -64,8 +64,9 @@ class-flag-requires c κs = (entry (c .before .before .before) .pre .0, class-be
 
 loop-again : tie.Need-loop-again Inv-loop μ-loop
 loop-again c =
-    let l = c .before .before .before .before .loop in
-    let p = entry (c .before .before .before) .pre in (
+    let turn = c .before .before .before in
+    let l = turn .before .loop in
+    let p = entry turn .pre in (
       search needs,
       spans (c .before .before),
       marked-more (l .token) _ (l .secret) (l .marks) (omega (arith, l .inv .2 .long, p .3)) (mark (c .before)) (l .inv .2),
