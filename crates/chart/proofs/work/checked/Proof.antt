@@ -9,7 +9,7 @@ use Rattle.chart.proofs.work.checked.Statement.{statement}
 use Rattle.chart.proofs.work.checked.Tie as tie
 
 -- the grammar was accepted
-was-read : (c : tie.After-s) → readOf (now (c .before .before .before .before .before .args .g)) ≡ Accepted (c .s .given .0 .0)
+was-read : (c : tie.After-s) → let read = c .before .before in readOf (now (read .before .before .before .args .g)) ≡ Accepted (c .s .given .0 .0)
 was-read c = sym (c .before .before .read .ensures) ∙ c .s .given .1
 
 check-rest-requires : tie.Need-check-rest-requires

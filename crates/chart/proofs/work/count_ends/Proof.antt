@@ -23,14 +23,16 @@ loop-holds c = (search needs, sym (total-none _))
 
 add-ends : tie.Need-add-ends Inv-loop μ-loop
 add-ends c =
-    let l = c .before .before .before .loop in
-    let words = now (c .before .before .before .before .before .args .words) in
+    let turn = c .before .before .before in
+    let l = turn .loop in
+    let words = now (turn .before .before .args .words) in
     omega (arith, total-le (λ k. countBelow 64 (getD words k 0)) 64 (l .q) (λ k. count-le 64 (getD words k 0)), count-le 64 (getD words (l .q) 0), l .inv .1, c .count .ensures)
 
 loop-again : tie.Need-loop-again Inv-loop μ-loop
 loop-again c =
-    let l = c .before .before .before .loop in
-    let words = now (c .before .before .before .before .before .args .words) in
+    let turn = c .before .before .before in
+    let l = turn .loop in
+    let words = now (turn .before .before .args .words) in
     (search needs, omega (arith, total-next (λ k. countBelow 64 (getD words k 0)) (l .q), l .inv .1, c .count .ensures))
 
 returns : tie.Need-returns Inv-loop μ-loop
