@@ -42,10 +42,11 @@ symbol-ends-requires c κs = let e = entry (c .before .before .before) in (e .pr
 
 add-records : tie.Need-add-records Inv-loop μ-loop
 add-records c =
-    let i = c .before .before .before .before in
+    let s = c .before in
+    let i = s .before .before .before in
     let e = entry (i .before) in
     let l = i .before .loop in
-    omega (arith, count-le 64 (c .before .symbol-ends .result), c .count .ensures, l .inv .1, start-le (grammarGiven (now (e .args .g))) (now (e .args .line)) (e .pre .0 .isLine .short) (standing (now (e .args .g)) (e .args .at) .right) (e .args .d) (e .args .start) (l .m) (omega (arith, i .loop-test .taken)))
+    omega (arith, count-le 64 (s .symbol-ends .result), c .count .ensures, l .inv .1, start-le (grammarGiven (now (e .args .g))) (now (e .args .line)) (e .pre .0 .isLine .short) (standing (now (e .args .g)) (e .args .at) .right) (e .args .d) (e .args .start) (l .m) (omega (arith, i .loop-test .taken)))
 
 loop-again : tie.Need-loop-again Inv-loop μ-loop
 loop-again c =
