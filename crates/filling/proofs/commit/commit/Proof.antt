@@ -36,6 +36,10 @@ module _ (c : tie.In-loop Inv-loop μ-loop) where
   few : end ≤ 2048
   few = omega (arith, inside, mul-le-mul-right {m = entry (c .before) .args .categories} {n = 32} width (entry (c .before) .pre .1))
 
+-- the rows of a category are committed, from where the lengths are known again
+abbrev committed : tie.After-slice-known4 Inv-loop μ-loop → tie.After-commit-rows Inv-loop μ-loop
+committed c = c .before .before .before .before
+
 loop-holds : tie.Need-loop-holds Inv-loop μ-loop
 loop-holds c = let a = c .before .before .args in (search needs, all-none (a .width) (a .depth) (now (a .next)) (now (a .words)) (now (a .depths)))
 
@@ -58,7 +62,7 @@ commit-rows-requires c κs =
 
 loop-again : tie.Need-loop-again Inv-loop μ-loop
 loop-again c =
-    let rows = c .before .before .before .before .before in
+    let rows = committed (c .before) in
     let k = rows .commit-rows in
     let i = rows .before .before .before in
     let a = entry (i .before) .args in

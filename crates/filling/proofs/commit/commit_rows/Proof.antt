@@ -75,7 +75,8 @@ slice-write-words c = omega (arith, ready (turn (c .before .before .before)) .wo
 
 loop-again : tie.Need-loop-again Inv-loop μ-loop
 loop-again c =
-    let t = c .before .before .before .before in
+    let i = c .before .before .before in
+    let t = i .before in
     let a = entry t .args in
     let l = t .loop in (
       search needs,

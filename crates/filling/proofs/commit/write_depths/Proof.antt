@@ -26,6 +26,9 @@ abbrev μ-loop : tie.MeasureT-loop
 
 -- the member that a turn takes
 module _ (c : tie.After-first Inv-loop μ-loop) where
+  abbrev entry : tie.Start Inv-loop μ-loop
+  entry = c .before .before .before .before
+
   abbrev left : ℕ
   left = c .before .before .loop .left
 
@@ -44,7 +47,7 @@ module _ (c : tie.After-first Inv-loop μ-loop) where
   power : (1 * 2 ^ taken) % 2 ^ 64 ≡ 2 ^ taken
   power = one-shifted taken small
 
-  room : let a = c .before .before .before .before .args in a .base + taken < length (now (a .depths))
+  room : let a = entry .args in a .base + taken < length (now (a .depths))
   room = c .before .before .loop .inv .2 taken here
 
 loop-holds : tie.Need-loop-holds Inv-loop μ-loop
@@ -70,7 +73,7 @@ loop-less c = omega (arith, power c, one-le _ _ (here c), pow-pos (taken c))
 
 loop-again : tie.Need-loop-again Inv-loop μ-loop
 loop-again c =
-    let a = c .before .before .before .before .args in
+    let a = entry c .args in
     let l = c .before .before .loop in
     rw (power c) (
       omega (arith, l .inv .0),

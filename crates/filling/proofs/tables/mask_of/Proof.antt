@@ -46,7 +46,7 @@ returns : tie.Need-returns Inv-loop μ-loop
 returns c = mask-empty _ _ (rw (c .before .if2 .taken) at (all (c .before .before))) (c .insert2 .ensures)
 
 returns-2 : tie.Need-returns-2 Inv-loop μ-loop
-returns-2 c = let start = c .before .before .before .before in mask-some _ _ (start .pre) (pos-of-ne-zero (c .if2 .left)) (all (c .before))
+returns-2 c = let after = c .before in mask-some _ _ (after .before .before .before .pre) (pos-of-ne-zero (c .if2 .left)) (all after)
 
 pub mask-of-spec : {M : Type 1} → statement M
 mask-of-spec =
