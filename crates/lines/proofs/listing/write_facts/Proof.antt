@@ -44,7 +44,8 @@ write-fact-requires c κs =
 
 loop-again : tie.Need-loop-again Inv-loop μ-loop
 loop-again c =
-    let here = c .before .before .before .before .before .before in
+    let call = c .before .before .before in
+    let here = call .before .before .before in
     let start = here .before .before .before in
     (omega arith, gather-more 29 _ (factLineAt (start .args .depths .now) (start .args .width)) (few (here .before)) (start .pre .3) (here .loop .inv .1) (omega arith) (c .before .before .write-fact .ensures))
 

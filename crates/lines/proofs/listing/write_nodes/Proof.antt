@@ -36,7 +36,7 @@ cast-t17 : tie.Need-cast-t17 Inv-loop μ-loop
 cast-t17 c = omega (arith, c .shared-slice-known3 .given (4 * c .before .before .before .loop .k + 1))
 
 cast-t21 : tie.Need-cast-t21 Inv-loop μ-loop
-cast-t21 c = let turn = c .before .before .before .before in omega (arith, c .shared-slice-known4 .given (4 * turn .loop .k + 2))
+cast-t21 c = let read = c .before in omega (arith, c .shared-slice-known4 .given (4 * read .before .before .before .loop .k + 2))
 
 cast-t25 : tie.Need-cast-t25 Inv-loop μ-loop
 cast-t25 c = omega (arith, c .shared-slice-known5 .given (4 * turn c .loop .k + 3))
@@ -52,7 +52,8 @@ write-line-requires c κs =
 loop-again : tie.Need-loop-again Inv-loop μ-loop
 unfolding numbered lineOf text
 loop-again c =
-    let here = turn (c .before .before .before .before .before .before) in
+    let call = c .before .before .before in
+    let here = turn (call .before .before .before) in
     let start = here .before .before .before in
     (omega arith, gather-more 21 _ (nodeLineAt (start .args .nodes .now)) (few (here .before)) (start .pre .1) (here .loop .inv .1) (omega arith) (c .before .before .write-line .ensures))
 
