@@ -13,14 +13,16 @@ answer-piece-requires c κs = let told = c .before .before in (sym (told .before
 returns : tie.Need-returns
 unfolding chartPieces
 returns c =
-    let told = c .before .before .before .before .before in
-    rw (job-refused _ _ _ (sym (told .before .before .checked .ensures) ∙ told .refusal .given .1)) (c .before .before .refused-piece .ensures)
+    let answered = c .before .before in
+    let told = answered .before .before .before in
+    rw (job-refused _ _ _ (sym (told .before .before .checked .ensures) ∙ told .refusal .given .1)) (answered .refused-piece .ensures)
 
 returns-2 : tie.Need-returns-2
 unfolding chartPieces
 returns-2 c =
-    let told = c .before .before .before .before .before in
-    rw (job-passed (checked-accepted _ _ _ _ _ _ (sym (told .before .before .checked .ensures) ∙ told .s .given .1))) (c .before .before .answer-piece .ensures)
+    let answered = c .before .before in
+    let told = answered .before .before .before in
+    rw (job-passed (checked-accepted _ _ _ _ _ _ (sym (told .before .before .checked .ensures) ∙ told .s .given .1))) (answered .answer-piece .ensures)
 
 pub job-piece-spec : {M : Type 1} → statement M
 job-piece-spec =

@@ -22,7 +22,8 @@ refused-line-requires c κs = omega (arith, c .before .before .before .pre)
 
 returns-2 : tie.Need-returns-2
 returns-2 c =
-    let a = c .before .before .before .before .before .before .args in
+    let call = c .before .before .before in
+    let a = call .before .before .before .args in
     let e : a .number ≡ 0 = omega arith in
     rw e (piece-stored (refusedLine (a .refusal) ∷ []) 0 false refl (refusedLine (a .refusal)) refl (c .before .before .refused-line .ensures .0))
 

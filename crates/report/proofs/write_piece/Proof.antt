@@ -44,13 +44,15 @@ part-job-piece-start-3 c = omega (arith, read (told (c .before)) .whole)
 returns : tie.Need-returns
 unfolding pieces
 returns c =
-    let refused = c .before .before .before .before .before in
-    rw (sym (refused .before .before .read-job .ensures) ∙ refused .refusal .given .1) (c .before .before .refused-piece .ensures)
+    let answered = c .before .before in
+    let refused = answered .before .before .before in
+    rw (sym (refused .before .before .read-job .ensures) ∙ refused .refusal .given .1) (answered .refused-piece .ensures)
 
 returns-2 : tie.Need-returns-2
 unfolding pieces
 returns-2 c =
-    let asked = told (c .before .before .before .before .before .before) in
+    let call = c .before .before .before in
+    let asked = told (call .before .before .before) in
     let job = asked .job .given .0 .0 in
     let e₁ : 3 + job .grammar - 1 - 2 ≡ job .grammar = omega arith in
     let e₂ : 3 + job .grammar + job .line - (3 + job .grammar) ≡ job .line = omega arith in

@@ -50,7 +50,8 @@ never e = let z : _≡_ {A = ℕ} 0 1 = cc in omega arith
 
 returns : tie.Need-returns
 returns c =
-    let charted = c .before .before .before .before in
+    let back = c .before .before in
+    let charted = back .before .before in
     let ready = chart-ready (checked-accepted _ _ _ _ _ _ (entry charted .pre .0)) (length-replicate {A = ℕ} 512 0) (length-replicate {A = ℕ} 16384 0) (charted .chart .ensures) in
     absurd (never (sym (ready .0) ∙ c .enum-told .given .1))
 

@@ -30,32 +30,41 @@ write-line-requires : tie.Need-write-line-requires
 write-line-requires c κs = (omega arith, omega (arith, few c))
 
 refused-line-requires : tie.Need-refused-line-requires
-refused-line-requires c κs = let asked = c .before .before .before .before .before .before .before in omega (arith, few (written asked .before))
+refused-line-requires c κs =
+    let told = c .before .before in
+    let back = told .before .before in
+    omega (arith, few (written (back .before .before .before) .before))
 
 write-nodes-requires : tie.Need-write-nodes-requires
 write-nodes-requires c κs =
-    let asked = c .before .before .before .before .before .before .before .before in
-    let shows = tree-shown _ _ _ _ _ _ _ _ (rw (c .before .before .before .count .given .1) at (asked .tree .ensures)) in
-    (omega (arith, shows .room), omega (arith, few (written asked .before), shows .room))
+    let told = c .before .before .before in
+    let back = told .before .before in
+    let tree = back .before .before .before in
+    let shows = tree-shown _ _ _ _ _ _ _ _ (rw (told .count .given .1) at (tree .tree .ensures)) in
+    (omega (arith, shows .room), omega (arith, few (written tree .before), shows .room))
 
 returns : tie.Need-returns
 unfolding treeLines flatten lentWords lentDepths lentTree numbered lineOf text
 returns c =
-    let told = c .before .before .before .before .before in
-    let asked = told .before .before .before .before .before in
-    let line = written asked in
-    let refusal = c .before .before .refused-line .ensures in
-    let refused = tree-refused _ _ _ _ _ _ _ _ (rw (told .refusal .given .1) at (asked .tree .ensures)) in
+    let answered = c .before .before in
+    let told = answered .before .before .before in
+    let back = told .before .before in
+    let tree = back .before .before .before in
+    let line = written tree in
+    let refusal = answered .refused-line .ensures in
+    let refused = tree-refused _ _ _ _ _ _ _ _ (rw (told .refusal .given .1) at (tree .tree .ensures)) in
     rw (refused, append-nil) (stored-then (omega (arith, few (line .before))) (line .write-line .ensures) (refusal .0))
 
 returns-2 : tie.Need-returns-2
 unfolding treeLines flatten lentWords lentDepths lentTree numbered lineOf text
 returns-2 c =
-    let told = c .before .before .before .before .before .before in
-    let asked = told .before .before .before .before .before in
-    let line = written asked in
+    let call = c .before .before .before in
+    let told = call .before .before .before in
+    let back = told .before .before in
+    let tree = back .before .before .before in
+    let line = written tree in
     let nodes = c .before .before .write-nodes .ensures in
-    let shows = tree-shown _ _ _ _ _ _ _ _ (rw (told .count .given .1) at (asked .tree .ensures)) in
+    let shows = tree-shown _ _ _ _ _ _ _ _ (rw (told .count .given .1) at (tree .tree .ensures)) in
     rw (shows .passed, sym (nodes-printed _ _ (shows .nodes) (shows .begins))) (stored-then (omega (arith, few (line .before), shows .room)) (line .write-line .ensures) (nodes .0))
 
 pub write-tree-spec : {M : Type 1} → statement M
