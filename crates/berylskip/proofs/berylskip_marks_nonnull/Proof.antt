@@ -6,17 +6,19 @@ use Rattle.berylskip.proofs.Handing.{hands-values, hands-refusal}
 use Rattle.berylskip.proofs.berylskip_marks_nonnull.Statement.{statement}
 use Rattle.berylskip.proofs.berylskip_marks_nonnull.Tie as tie
 
+-- the question is answered, from where the lengths are known again
+abbrev asked : tie.After-slice-known6 → tie.After-marks
+asked c = c .before .before .before .before .before .before
+
 returns : tie.Need-returns
 returns c =
     let matched = c .before .before .before in
-    let asked = matched .before .before .before .before .before .before .before .before in
-    hands-refusal _ (asked .marks .ensures) (matched .refusal .given .0 .0) (ap marksTold (matched .refusal .given .1)) (c .refuse .ensures)
+    hands-refusal _ (asked (matched .before .before) .marks .ensures) (matched .refusal .given .0 .0) (ap marksTold (matched .refusal .given .1)) (c .refuse .ensures)
 
 returns-2 : tie.Need-returns-2
 returns-2 c =
     let matched = c .before in
-    let asked = matched .before .before .before .before .before .before .before .before in
-    hands-values _ (asked .marks .ensures) _ (ap marksTold (matched .s .given .1))
+    hands-values _ (asked (matched .before .before) .marks .ensures) _ (ap marksTold (matched .s .given .1))
 
 pub berylskip-marks-nonnull-spec : {M : Type 1} → statement M
 berylskip-marks-nonnull-spec =
