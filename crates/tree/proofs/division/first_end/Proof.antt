@@ -52,7 +52,7 @@ returns-2 : tie.Need-returns-2
 returns-2 c = end-past _ _ _ _ _ _ _ (c .before .if1 .left) (c .if2 .taken)
 
 cast-if3 : tie.Need-cast-if3
-cast-if3 c = omega (arith, c .shared-slice-known5 .given (c .before .before .before .before .before .before .args .start))
+cast-if3 c = let o = c .before .before .before in omega (arith, c .shared-slice-known5 .given (o .before .before .before .args .start))
 
 returns-3 : tie.Need-returns-3
 returns-3 c = end-other _ _ _ _ _ _ _ (c .before .before .before .if1 .left) (c .if3 .taken)
@@ -63,7 +63,7 @@ returns-4 c =
     end-next _ _ _ _ _ _ _ (o .before .before .before .if1 .left) (o .before .before .if2 .left) (o .if3 .left) (member-true _ _ (c .before .member .ensures) (c .if4 .taken))
 
 returns-5 : tie.Need-returns-5
-returns-5 c = end-out _ _ _ _ _ _ _ (c .before .before .before .before .before .if1 .left) (member-false _ _ (c .before .member .ensures) (c .if4 .left))
+returns-5 c = let o = c .before .before in end-out _ _ _ _ _ _ _ (o .before .before .before .if1 .left) (member-false _ _ (c .before .member .ensures) (c .if4 .left))
 
 pub first-end-spec : {M : Type 1} → statement M
 first-end-spec =

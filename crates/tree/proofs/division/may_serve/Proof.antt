@@ -10,11 +10,15 @@ use Rattle.tree.proofs.DivisionLaws.{row-place, serve-other, serve-empt
 use Rattle.tree.proofs.division.may_serve.Statement.{statement}
 use Rattle.tree.proofs.division.may_serve.Tie as tie
 
+-- the function's entry
+abbrev entry : tie.After-rule-left → tie.Start
+entry c = c .before .before .before .before
+
 returns : tie.Need-returns
 returns c = serve-other _ _ _ _ _ _ (λ q. c .if1 .taken (c .before .rule-left .ensures ∙ q))
 
 -- the rule is of the category
-left : (c : tie.Else1) → let a = c .before .before .before .before .before .args in standing (now (a .g)) (a .at) .left ≡ a .category
+left : (c : tie.Else1) → let a = entry (c .before) .args in standing (now (a .g)) (a .at) .left ≡ a .category
 left c = sym (c .before .rule-left .ensures) ∙ c .if1 .left
 
 returns-2 : tie.Need-returns-2
@@ -29,11 +33,13 @@ some c = let n = c .before .if2 .left in omega arith
 
 -- the place of its row
 place : (c : tie.Then3) →
-    let e = c .before .before .before .before .before .before .before .before .before .args in
-    (getD (now (c .before .before .before .rule-symbols .result)) 0 0 - 128) * (length (now (e .line)) + 1) + e .start < length (now (e .words))
+    let y = c .before .before .before in
+    let e = entry (y .before .before) .args in
+    (getD (now (y .rule-symbols .result)) 0 0 - 128) * (length (now (e .line)) + 1) + e .start < length (now (e .words))
 place c =
-    let e = c .before .before .before .before .before .before .before .before .before in
-    let q = c .before .before .before .rule-symbols .ensures in
+    let y = c .before .before .before in
+    let e = entry (y .before .before) in
+    let q = y .rule-symbols .ensures in
     row-place _ _ _ _ (e .pre .2) (rw q (e .pre .3 (rw q at (some (c .before))) (rw q at (c .if3 .taken))))
 
 mul-row : tie.Need-mul-row
@@ -53,7 +59,7 @@ returns-3 c =
     let s = c .before .before in
     let q = s .before .before .rule-symbols .ensures in
     let e = s .before .before .before in
-    rw q (serve-row _ _ _ _ _ _ (left e) (rw q at (some s)) (rw q at (c .before .if3 .taken)) (e .before .before .before .before .before .pre .2))
+    rw q (serve-row _ _ _ _ _ _ (left e) (rw q at (some s)) (rw q at (c .before .if3 .taken)) (entry (e .before) .pre .2))
 
 returns-4 : tie.Need-returns-4
 returns-4 c =
@@ -62,7 +68,10 @@ returns-4 c =
     serve-past _ _ _ _ _ _ (left (s .before .before .before)) (rw q at (some s)) (rw q at (c .before .if3 .left)) (c .if4 .taken)
 
 cast-result : tie.Need-cast-result
-cast-result c = omega (arith, c .shared-slice-known6 .given (c .before .before .before .before .before .before .before .before .before .before .before .args .start))
+cast-result c =
+    let s = c .before .before .before in
+    let y = s .before .before in
+    omega (arith, c .shared-slice-known6 .given (entry (y .before .before) .args .start))
 
 returns-5 : tie.Need-returns-5
 returns-5 c =

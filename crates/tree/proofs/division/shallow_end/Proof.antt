@@ -22,11 +22,14 @@ abbrev μ-loop : tie.MeasureT-loop
 
 -- the end that a turn takes
 module _ (c : tie.After-first Inv-loop μ-loop) where
+  abbrev asked : tie.Start Inv-loop μ-loop
+  asked = c .before .before .before .before
+
   turn : Taken (c .before .before .loop .left) (c .first .result)
   turn = taken _ _ (omega (arith, c .before .before .loop .inv .0)) (c .before .loop-test .taken) (c .first .ensures)
 
-  room : c .before .before .before .before .args .base + c .first .result < length (now (c .before .before .before .before .args .depths))
-  room = c .before .before .before .before .pre _ (c .before .before .loop .inv .1 _ (turn .here))
+  room : asked .args .base + c .first .result < length (now (asked .args .depths))
+  room = asked .pre _ (c .before .before .loop .inv .1 _ (turn .here))
 
 loop-holds : tie.Need-loop-holds Inv-loop μ-loop
 loop-holds c = (omega arith, λ e m. m, λ e m n. absurd (n m))
@@ -62,7 +65,7 @@ loop-again : tie.Need-loop-again Inv-loop μ-loop
 loop-again c =
     let f = c .before .before in
     let l = f .before .before .loop in
-    let base = f .before .before .before .before .args .base in
+    let base = asked f .args .base in
     let t = turn f in
     rw (t .power) (
       omega (arith, l .inv .0),

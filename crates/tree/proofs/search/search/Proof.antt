@@ -38,7 +38,7 @@ module _ (c : tie.At-search Inv-loop μ-loop Inv-search μ-search) where
   few = omega (arith, inside, asked c .pre .0 .few)
 
 sub-h : tie.Need-sub-h Inv-loop μ-loop Inv-search μ-search
-sub-h c = omega (arith, c .before .before .before .before .pre .1 .fact)
+sub-h c = let k = c .before in omega (arith, k .before .before .before .pre .1 .fact)
 
 mul-at : tie.Need-mul-at Inv-loop μ-loop Inv-search μ-search
 mul-at c = omega (arith, few c)
@@ -69,14 +69,16 @@ rule-symbols-requires c κs = let r = c .before .before .before in asked r .pre 
 
 sets-before-requires : tie.Need-sets-before-requires Inv-loop μ-loop Inv-search μ-search
 sets-before-requires c κs =
-    let r = c .before .before .before .before in
+    let m = c .before .before in
+    let r = m .before .before in
     let s = asked r in
     let k = inside r in
     rw (c .rule-symbols .ensures) (s .pre .0 .short, node-rises _ _ _ _ _ _ (s .pre .0) _ _ _ _ (s .pre .1), s .pre .1 .end, symbols-few _ _ _ _ _ _ (s .pre .0) _ k, symbols-fit _ _ _ _ _ _ (s .pre .0) _ k)
 
 loop-holds : tie.Need-loop-holds Inv-loop μ-loop Inv-search μ-search
 loop-holds c =
-    let s = asked (c .before .before .before .before .before) in
+    let m = c .before .before .before in
+    let s = asked (m .before .before) in
     turn-begin _ _ (s .pre .0 .proper) _ _ _ _ (s .pre .0 .short) (s .pre .1 .end)
 
 -- symbol d is one of at most 8
@@ -125,12 +127,13 @@ loop-less c = omega (arith, fewer (c .before .before) .0)
 
 loop-again : tie.Need-loop-again Inv-loop μ-loop Inv-search μ-search
 loop-again c =
-    let l = c .before .before .before .before in
+    let o = c .before .before in
+    let l = o .before .before in
     let s = asked (here l) in
     let e = l .before .before .rule-symbols .ensures in
-    let k = fewer (c .before .before) in
+    let k = fewer o in
     let known = rw (← e) at (symbols-known _ _ _ _ _ _ (s .pre .0) _ (inside (here l))) in
-    turn-next _ _ (s .pre .0 .proper) _ _ _ _ (s .pre .0 .short) (s .pre .1 .end) _ _ _ (l .loop .inv) _ _ (k .0) (c .before .before .before .loop-test .taken)
+    turn-next _ _ (s .pre .0 .proper) _ _ _ _ (s .pre .0 .short) (s .pre .1 .end) _ _ _ (l .loop .inv) _ _ (k .0) (o .before .loop-test .taken)
     (c .first-end .ensures _ (s .pre .0 .work) (known _ (k .0))) (rw add-one (l .before .sets-before .ensures .exact _ (s .pre .0 .work) known _ (omega arith) (k .0))) (k .1)
 
 add-p-2 : tie.Need-add-p-2 Inv-loop μ-loop Inv-search μ-search
