@@ -21,9 +21,6 @@ returns c = sym (line-long _ _ (c .if1 .taken))
 loop-holds : tie.Need-loop-holds Inv-loop μ-loop
 loop-holds c = (omega arith, sym (line-short _ _ (c .if1 .left)))
 
-cast-if2 : tie.Need-cast-if2 Inv-loop μ-loop
-cast-if2 c = omega (arith, c .shared-slice-known .given (c .before .before .loop .token))
-
 returns-2 : tie.Need-returns-2 Inv-loop μ-loop
 returns-2 c =
     let l = c .before .before .before .loop in
@@ -46,7 +43,7 @@ check-line-spec =
     returns
     loop-holds
     (search needs)
-    cast-if2
+    (λ c. omega (arith, c .shared-slice-known .given (c .before .before .loop .token)))
     returns-2
     (search needs) (search needs)
     loop-again
