@@ -43,12 +43,6 @@ committed c = c .before .before .before .before
 loop-holds : tie.Need-loop-holds Inv-loop μ-loop
 loop-holds c = let a = c .before .before .args in (search needs, all-none (a .width) (a .depth) (now (a .next)) (now (a .words)) (now (a .depths)))
 
-mul-from : tie.Need-mul-from Inv-loop μ-loop
-mul-from c = omega (arith, few c)
-
-add-commit-rows : tie.Need-add-commit-rows Inv-loop μ-loop
-add-commit-rows c = omega (arith, few (c .before .before))
-
 commit-rows-requires : tie.Need-commit-rows-requires Inv-loop μ-loop
 commit-rows-requires c κs =
     let i = c .before .before in
@@ -74,12 +68,6 @@ loop-again c =
           (λ p. rw (p .1) (inl, ⊎-elim (λ m. m) (λ e. absurd (false≢true (sym (p .0 .left) ∙ e .1))))) (c .if1 .came)),
     )
 
-same-length : tie.Need-same-length Inv-loop μ-loop
-same-length c = c .before .loop .inv .1 .committed .words-long
-
-same-length-2 : tie.Need-same-length-2 Inv-loop μ-loop
-same-length-2 c = c .before .loop .inv .1 .committed .depths-long
-
 returns : tie.Need-returns Inv-loop μ-loop
 returns c =
     let a = entry (c .before) .args in
@@ -94,11 +82,10 @@ commit-spec =
     Inv-loop
     μ-loop
     loop-holds
-    mul-from
-    add-commit-rows
+    (λ c. omega (arith, few c)) (λ c. omega (arith, few (c .before .before)))
     commit-rows-requires
     (search needs) (search needs) (search needs)
     loop-again
-    same-length
-    same-length-2
+    (λ c. c .before .loop .inv .1 .committed .words-long)
+    (λ c. c .before .loop .inv .1 .committed .depths-long)
     returns)

@@ -55,9 +55,6 @@ loop-holds c =
     let a = c .before .before .args in
     (search needs, search needs, rows-same (a .width) (a .depth) (now (a .next)) (a .from) (a .from) (now (a .words)) (now (a .depths)) (λ q l h. absurd (omega arith)))
 
-slice-read-old : tie.Need-slice-read-old Inv-loop μ-loop
-slice-read-old c = omega (arith, ready (c .before .before) .words-room)
-
 mul-write-depths : tie.Need-mul-write-depths Inv-loop μ-loop
 mul-write-depths c =
     let a = entry (turn c) .args in
@@ -69,9 +66,6 @@ write-depths-requires c κs = λ j m.
     let r = ready t in
     let l : t .loop .q < entry t .args .to = omega arith in
     omega (arith, digits-lt l (r .narrow (t .loop .q) j l (xor-member _ _ j (r .grows (t .loop .q) j l) .0 m .0)), r .depths-room)
-
-slice-write-words : tie.Need-slice-write-words Inv-loop μ-loop
-slice-write-words c = omega (arith, ready (turn (c .before .before .before)) .words-room)
 
 loop-again : tie.Need-loop-again Inv-loop μ-loop
 loop-again c =
@@ -93,12 +87,6 @@ loop-again c =
           (c .if1 .came),
     )
 
-same-length : tie.Need-same-length Inv-loop μ-loop
-same-length c = c .before .loop .inv .2 .committed .words-long
-
-same-length-2 : tie.Need-same-length-2 Inv-loop μ-loop
-same-length-2 c = c .before .loop .inv .2 .committed .depths-long
-
 returns : tie.Need-returns Inv-loop μ-loop
 returns c =
     let a = entry (c .before) .args in
@@ -114,14 +102,14 @@ commit-rows-spec =
     μ-loop
     loop-holds
     (search needs)
-    slice-read-old
+    (λ c. omega (arith, ready (c .before .before) .words-room))
     (search needs) (search needs)
     mul-write-depths
     write-depths-requires
     (search needs)
-    slice-write-words
+    (λ c. omega (arith, ready (turn (c .before .before .before)) .words-room))
     (search needs) (search needs)
     loop-again
-    same-length
-    same-length-2
+    (λ c. c .before .loop .inv .2 .committed .words-long)
+    (λ c. c .before .loop .inv .2 .committed .depths-long)
     returns)

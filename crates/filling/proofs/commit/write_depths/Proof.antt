@@ -53,24 +53,6 @@ module _ (c : tie.After-first Inv-loop μ-loop) where
 loop-holds : tie.Need-loop-holds Inv-loop μ-loop
 loop-holds c = (search needs, refl, c .before .pre, λ final d. d)
 
-add-depths : tie.Need-add-depths Inv-loop μ-loop
-add-depths c = omega (arith, room c)
-
-mul-depths : tie.Need-mul-depths Inv-loop μ-loop
-mul-depths c = omega (arith, room c)
-
-slice-write-depths : tie.Need-slice-write-depths Inv-loop μ-loop
-slice-write-depths c = omega (arith, room c)
-
-shl-left : tie.Need-shl-left Inv-loop μ-loop
-shl-left c = small c
-
-sub-left : tie.Need-sub-left Inv-loop μ-loop
-sub-left c = rw (power c) (one-le _ _ (here c))
-
-loop-less : tie.Need-loop-less Inv-loop μ-loop
-loop-less c = omega (arith, power c, one-le _ _ (here c), pow-pos (taken c))
-
 loop-again : tie.Need-loop-again Inv-loop μ-loop
 loop-again c =
     let a = entry c .args in
@@ -88,9 +70,6 @@ returns c =
     let l = c .before .loop in
     l .inv .3 (l .depths) (subst (λ (x : ℕ). Deepened (a .base) x (a .depth) (l .depths) (l .depths)) (sym (c .loop-test .left)) (deepened-none (a .base) (a .depth) (l .depths)))
 
-same-length : tie.Need-same-length Inv-loop μ-loop
-same-length c = c .before .loop .inv .1
-
 pub write-depths-spec : {M : Type 1} → statement M
 write-depths-spec =
     tie.close
@@ -98,13 +77,11 @@ write-depths-spec =
     Inv-loop
     μ-loop
     loop-holds
-    (search needs) (search needs)
-    add-depths
-    mul-depths
-    slice-write-depths
-    shl-left
-    sub-left
-    loop-less
+    (search needs) (search needs) (λ c. omega (arith, room c)) (λ c. omega (arith, room c))
+    (λ c. omega (arith, room c))
+    small
+    (λ c. rw (power c) (one-le _ _ (here c)))
+    (λ c. omega (arith, power c, one-le _ _ (here c), pow-pos (taken c)))
     loop-again
-    same-length
+    (λ c. c .before .loop .inv .1)
     returns)

@@ -28,21 +28,9 @@ loop-holds c = (search needs, reached-none (c .insert .result) (c .before .befor
 returns : tie.Need-returns Inv-loop μ-loop
 returns c = let l = c .before .before .loop in reached-nowhere (l .d) (l .ends) (c .if1 .taken) (l .inv .1)
 
-cast-symbol : tie.Need-cast-symbol Inv-loop μ-loop
-cast-symbol c = omega (arith, c .shared-slice-known3 .given (turn c .loop .d))
-
-after-class-requires : tie.Need-after-class-requires Inv-loop μ-loop
-after-class-requires c κs = entry (turn (c .before .before)) .pre .0 .small _
-
 -- the rows of the category are in the words
 inside : (c : tie.Else2 Inv-loop μ-loop) → let l = turn (c .before) in let a = entry l .args in (getD (now (a .symbols)) (l .loop .d) 0 - 128) * a .width + a .width ≤ length (now (a .words))
 inside c = let l = turn (c .before) in entry l .pre .0 .rows (l .loop .d) (c .before .before .before .loop-test .taken) (c .if2 .left)
-
-mul-union : tie.Need-mul-union Inv-loop μ-loop
-mul-union c = omega (arith, inside c)
-
-union-requires : tie.Need-union-requires Inv-loop μ-loop
-union-requires c κs = (entry (turn (c .before)) .pre .0 .narrow, inside c)
 
 loop-again : tie.Need-loop-again Inv-loop μ-loop
 loop-again c =
@@ -68,11 +56,11 @@ reach-spec =
     loop-holds
     returns
     (search needs)
-    cast-symbol
+    (λ c. omega (arith, c .shared-slice-known3 .given (turn c .loop .d)))
     (search needs) (search needs)
-    after-class-requires
-    mul-union
-    union-requires
+    (λ c κs. entry (turn (c .before .before)) .pre .0 .small _)
+    (λ c. omega (arith, inside c))
+    (λ c κs. (entry (turn (c .before)) .pre .0 .narrow, inside c))
     (search needs) (search needs)
     loop-again
     returns-2)

@@ -37,24 +37,6 @@ few c = omega (arith, whole _ _ (entry (c .before) .pre .0) .rules-high)
 here : (c : tie.In-loop Inv-loop μ-loop) → Found (now (entry (c .before) .args .g)) (entry (c .before) .args .s) (c .before .loop .p) (getD (now (entry (c .before) .args .starts)) (c .before .loop .p) 0)
 here c = entry (c .before) .pre .1 .found (c .before .loop .p) (omega arith)
 
-mul-if1 : tie.Need-mul-if1 Inv-loop μ-loop
-mul-if1 c = omega (arith, few c)
-
-element-copy-out-if1 : tie.Need-element-copy-out-if1 Inv-loop μ-loop
-element-copy-out-if1 c = few c
-
-mul-at : tie.Need-mul-at Inv-loop μ-loop
-mul-at c = omega (arith, few (c .before .before))
-
-element-copy-out-at : tie.Need-element-copy-out-at Inv-loop μ-loop
-element-copy-out-at c = few (c .before .before)
-
-rule-left-requires : tie.Need-rule-left-requires Inv-loop μ-loop
-rule-left-requires c κs = here (c .before .before .before) .stands
-
-rule-symbols-requires : tie.Need-rule-symbols-requires Inv-loop μ-loop
-rule-symbols-requires c κs = here (turn c) .stands
-
 apply-requires : tie.Need-apply-requires Inv-loop μ-loop
 apply-requires c κs =
     let i = turn (c .before .before) in
@@ -101,13 +83,11 @@ apply-rules-spec =
     Inv-loop
     μ-loop
     loop-holds
-    mul-if1
-    element-copy-out-if1
-    mul-at
-    element-copy-out-at
-    rule-left-requires
-    (search needs)
-    rule-symbols-requires
+    (λ c. omega (arith, few c))
+    few
+    (λ c. omega (arith, few (c .before .before))) (λ c. few (c .before .before))
+    (λ c κs. here (c .before .before .before) .stands)
+    (search needs) (λ c κs. here (turn c) .stands)
     apply-requires
     (search needs) (search needs)
     loop-again

@@ -19,9 +19,6 @@ loop-holds c = (search needs, cleared-none _)
 loop-again : tie.Need-loop-again Inv-loop μ-loop
 loop-again c = (search needs, cleared-more _ _ _ (omega arith) (c .before .loop .inv .1))
 
-same-length : tie.Need-same-length Inv-loop μ-loop
-same-length c = c .before .loop .inv .1 .long
-
 returns : tie.Need-returns Inv-loop μ-loop
 returns c =
     let l = c .before .loop in
@@ -37,5 +34,5 @@ clear-words-spec =
     loop-holds
     (search needs) (search needs) (search needs) (search needs)
     loop-again
-    same-length
+    (λ c. c .before .loop .inv .1 .long)
     returns)

@@ -57,9 +57,6 @@ some c = omega (arith, c .loop-test .taken)
 few : (c : tie.In-loop Inv-loop μ-loop) → c .before .loop .depth ≤ 2048
 few c = let begun = c .before .before in rounds-few (given (begun .before .before)) (some c) (c .before .loop .inv .1 .changes)
 
-add-depth : tie.Need-add-depth Inv-loop μ-loop
-add-depth c = omega (arith, few c)
-
 -- the memory that the loop begins with has the room of the memory at entry
 room : (c : tie.After-rule-masks Inv-loop μ-loop) → chartSize (origin c .args .s .categories) (length (now (origin c .args .line))) ≤ length (cleared c .clear-words .last .0)
 room c = let h = origin c .pre .2 in le-trans h (le-of-eq (sym (ap length (cleared c .clear-words .ensures) ∙ cleared-long _ _ h)))
@@ -79,9 +76,6 @@ commit-requires c κs =
       omega (arith, p .1 .short),
     )
 
-loop-less : tie.Need-loop-less Inv-loop μ-loop
-loop-less c = omega (arith, few (turn (done c .before)))
-
 loop-again : tie.Need-loop-again Inv-loop μ-loop
 loop-again c =
     let ready = done c .before in
@@ -92,9 +86,6 @@ loop-again c =
       round-done (given m) (l .depth) (l .changed) _ _ (l .words) (l .next) (l .depths) _ _ _ (l .inv .1) (m .rule-masks .ensures) (begun .before .class-places .ensures)
           (ready .before .before .before .apply-rules .ensures) _ _ _ _ (category-count _ _ (origin m .pre .0)) (some (turn ready)) (done c .commit .ensures),
     )
-
-sub-result : tie.Need-sub-result Inv-loop μ-loop
-sub-result c = some-round (c .loop-test .left) (c .before .loop .inv .1 .changes)
 
 returns : tie.Need-returns Inv-loop μ-loop
 returns c =
@@ -111,18 +102,16 @@ fill-spec =
     (tie.spec
     Inv-loop
     μ-loop
-    (search needs) (search needs) (search needs) (search needs) (search needs)
-    (λ c κs. search needs)
+    (search needs) (search needs) (search needs) (search needs) (search needs) (λ c κs. search needs)
     (λ c κs. search needs)
     class-places-requires
     (search needs)
     loop-holds
-    add-depth
-    (λ c κs. search needs)
+    (λ c. omega (arith, few c)) (λ c κs. search needs)
     commit-requires
-    loop-less
+    (λ c. omega (arith, few (turn (done c .before))))
     loop-again
     (search needs)
-    sub-result
+    (λ c. some-round (c .loop-test .left) (c .before .loop .inv .1 .changes))
     (search needs) (search needs)
     returns)

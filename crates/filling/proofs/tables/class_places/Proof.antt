@@ -22,21 +22,6 @@ loop-holds c = (omega arith, places-none _)
 token : (c : tie.In-loop Inv-loop μ-loop) → getD (now (c .before .before .before .args .line)) (c .before .loop .m) 0 < 128
 token c = c .before .before .before .pre .tokens (c .before .loop .m) (omega arith)
 
-cast-class : tie.Need-cast-class Inv-loop μ-loop
-cast-class c = omega (arith, token (c .before))
-
-mul-insert : tie.Need-mul-insert Inv-loop μ-loop
-mul-insert c = omega (arith, token (c .before))
-
-array-read-insert : tie.Need-array-read-insert Inv-loop μ-loop
-array-read-insert c = token (c .before)
-
-mul-places : tie.Need-mul-places Inv-loop μ-loop
-mul-places c = omega (arith, token (c .before .before))
-
-array-write-places : tie.Need-array-write-places Inv-loop μ-loop
-array-write-places c = token (c .before .before)
-
 loop-again : tie.Need-loop-again Inv-loop μ-loop
 loop-again c =
     let l = c .before .before .before .loop in
@@ -54,13 +39,9 @@ class-places-spec =
     Inv-loop
     μ-loop
     loop-holds
-    (search needs)
-    cast-class
-    mul-insert
-    array-read-insert
-    (search needs)
-    mul-places
-    array-write-places
-    (search needs) (search needs)
+    (search needs) (λ c. omega (arith, token (c .before))) (λ c. omega (arith, token (c .before)))
+    (λ c. token (c .before)) (search needs)
+    (λ c. omega (arith, token (c .before .before)))
+    (λ c. token (c .before .before)) (search needs) (search needs)
     loop-again
     returns)

@@ -24,12 +24,6 @@ loop-holds c = (omega arith, mask-none _)
 symbol : (c : tie.In-loop Inv-loop μ-loop) → getD (now (c .before .before .before .args .symbols)) (c .before .loop .d) 0 < 160
 symbol c = c .before .before .before .pre (c .before .loop .d) (omega arith)
 
-cast-symbol : tie.Need-cast-symbol Inv-loop μ-loop
-cast-symbol c = omega (arith, symbol (c .before))
-
-insert-requires : tie.Need-insert-requires Inv-loop μ-loop
-insert-requires c κs = omega (arith, symbol (c .before .before))
-
 loop-again : tie.Need-loop-again Inv-loop μ-loop
 loop-again c =
     let l = c .before .before .before .loop in (
@@ -55,9 +49,8 @@ mask-of-spec =
     Inv-loop
     μ-loop
     loop-holds
-    (search needs)
-    cast-symbol
-    insert-requires
+    (search needs) (λ c. omega (arith, symbol (c .before)))
+    (λ c κs. omega (arith, symbol (c .before .before)))
     (search needs) (search needs)
     loop-again
     (search needs)
