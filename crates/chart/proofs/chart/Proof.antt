@@ -45,9 +45,6 @@ returns c =
 fill-requires : tie.Need-fill-requires
 fill-requires c κs = let p = passes (c .before .before .before) in (sections p, line-is p, memory-is p .0, memory-is p .1)
 
-mul-count-ends : tie.Need-mul-count-ends
-mul-count-ends c = omega (arith, small (asked (filled (c .before .before))))
-
 count-ends-requires : tie.Need-count-ends-requires
 count-ends-requires c κs =
     let f = filled (c .before .before) in
@@ -65,7 +62,7 @@ chart-spec =
     (search needs)
     fill-requires
     (search needs)
-    mul-count-ends
+    (λ c. omega (arith, small (asked (filled (c .before .before)))))
     count-ends-requires
     (search needs) (search needs)
     returns-2)

@@ -56,15 +56,6 @@ returns c =
 fill-requires : tie.Need-fill-requires
 fill-requires c κs = let p = passes (c .before .before .before) in (sections p, line-is p, memory-is p .0, memory-is p .1)
 
-mul-row : tie.Need-mul-row
-mul-row c = omega (arith, small (asked (filled c)))
-
-add-row-2 : tie.Need-add-row-2
-add-row-2 c = omega (arith, small (asked (filled c)))
-
-mul-row-2 : tie.Need-mul-row-2
-mul-row-2 c = omega (arith, small (asked (filled c)))
-
 slice-read-row : tie.Need-slice-read-row
 slice-read-row c =
     let f = filled (c .before) in
@@ -87,9 +78,9 @@ ends-spec =
     (search needs)
     fill-requires
     (search needs)
-    mul-row
-    add-row-2
-    mul-row-2
+    (λ c. omega (arith, small (asked (filled c))))
+    (λ c. omega (arith, small (asked (filled c))))
+    (λ c. omega (arith, small (asked (filled c))))
     slice-read-row
     (search needs) (search needs) (search needs) (search needs)
     returns-2)
