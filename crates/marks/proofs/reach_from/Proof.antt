@@ -45,18 +45,6 @@ few c =
 loop-holds : tie.Need-loop-holds Inv-loop μ-loop
 loop-holds c = let e = c .before .before in (search needs, reach-none (grammar e) (now (e .args .words)) (e .args .width) (e .args .start) (e .args .far))
 
-mul-reach-of : tie.Need-mul-reach-of Inv-loop μ-loop
-mul-reach-of c = omega (arith, few (c .before .before))
-
-add-reach-of : tie.Need-add-reach-of Inv-loop μ-loop
-add-reach-of c = omega (arith, few (c .before .before))
-
-mul-reach-of-2 : tie.Need-mul-reach-of-2 Inv-loop μ-loop
-mul-reach-of-2 c = omega (arith, few (c .before .before))
-
-shared-slice-read-reach-of : tie.Need-shared-slice-read-reach-of Inv-loop μ-loop
-shared-slice-read-reach-of c = inside (c .before .before .before)
-
 loop-again : tie.Need-loop-again Inv-loop μ-loop
 loop-again c =
     let turn = c .before .before .before in
@@ -83,11 +71,8 @@ reach-from-spec =
     Inv-loop
     μ-loop
     loop-holds
-    (λ c κs. search needs)
-    mul-reach-of
-    add-reach-of
-    mul-reach-of-2
-    shared-slice-read-reach-of
-    (search needs) (search needs) (search needs)
+    (λ c κs. search needs) (λ c. omega (arith, few (c .before .before)))
+    (λ c. omega (arith, few (c .before .before))) (λ c. omega (arith, few (c .before .before)))
+    (λ c. inside (c .before .before .before)) (search needs) (search needs) (search needs)
     loop-again
     returns)
