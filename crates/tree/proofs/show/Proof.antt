@@ -16,14 +16,8 @@ use Rattle.tree.proofs.show.Tie as tie
 abbrev entry : tie.After-slice-known → tie.Start
 entry c = c .before .before .before .before .before
 
-depth-at-requires : tie.Need-depth-at-requires
-depth-at-requires c κs = let p = entry c .pre in (p .1, p .3, p .4, depths-inside _ _ _ _ (p .2) (p .5))
-
 returns : tie.Need-returns
 returns c = let p = entry (c .before .before) .pre in show-none _ _ _ _ _ (given-proper _ _ (p .0)) _ _ (p .6 _ _ _ (given-categories _ _ (p .0) _ (p .2)) (p .3) (p .4)) (sym (c .before .depth-at .ensures) ∙ c .if1 .taken)
-
-rule-starts-of-requires : tie.Need-rule-starts-of-requires
-rule-starts-of-requires c κs = accepted _ _ (entry (c .before .before) .pre .0) .0
 
 -- the fact as a node
 node : (c : tie.Else1) → let a = entry (c .before .before) .args in NodeAt (grammarGiven (now (a .g))) (now (a .line)) (a .a) (a .i) (a .j) (c .before .depth-at .result)
@@ -37,9 +31,6 @@ ready : (c : tie.After-rule-starts-of) →
     let a = entry (c .before .before .before) .args in
     Searchable (grammarGiven (now (a .g))) (now (a .g)) (c .rule-starts-of .result) (now (a .line)) (now (a .words)) (now (a .depths))
 ready c = let p = entry (c .before .before .before) .pre in searchable _ _ _ _ _ _ (p .0) (c .rule-starts-of .ensures) (p .1) (p .7) (p .5) (record { kept = p .6; rows = p .8 })
-
-count-nodes-requires : tie.Need-count-nodes-requires
-count-nodes-requires c κs = (ready (c .before), node (c .before .before), omega arith)
 
 returns-2 : tie.Need-returns-2
 returns-2 c =
@@ -66,10 +57,10 @@ pub show-spec : {M : Type 1} → statement M
 show-spec =
     tie.close
     (tie.spec
-    depth-at-requires
+    (λ c κs. let p = entry c .pre in (p .1, p .3, p .4, depths-inside _ _ _ _ (p .2) (p .5)))
     returns
-    rule-starts-of-requires
-    count-nodes-requires
+    (λ c κs. accepted _ _ (entry (c .before .before) .pre .0) .0)
+    (λ c κs. (ready (c .before), node (c .before .before), omega arith))
     returns-2
     write-requires
     (search needs)

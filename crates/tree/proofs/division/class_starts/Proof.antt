@@ -29,18 +29,6 @@ shared-slice-read-if2 c =
 cast-if2 : tie.Need-cast-if2 Inv-loop μ-loop
 cast-if2 c = omega (arith, c .shared-slice-known2 .given (c .before .before .first .result - 1))
 
-insert-requires : tie.Need-insert-requires Inv-loop μ-loop
-insert-requires c κs = omega (arith, turn (c .before .before .before) .small)
-
-shl-left : tie.Need-shl-left Inv-loop μ-loop
-shl-left c = turn (c .before) .small
-
-sub-left : tie.Need-sub-left Inv-loop μ-loop
-sub-left c = let t = turn (c .before) in omega (arith, t .power, t .covered)
-
-loop-less : tie.Need-loop-less Inv-loop μ-loop
-loop-less c = let t = turn (c .before) in omega (arith, t .power, t .less)
-
 loop-again : tie.Need-loop-again Inv-loop μ-loop
 loop-again c =
     let l = c .before .before .before .loop in
@@ -68,9 +56,9 @@ class-starts-spec =
     shared-slice-read-if2
     cast-if2
     (search needs)
-    insert-requires
-    shl-left
-    sub-left
-    loop-less
+    (λ c κs. omega (arith, turn (c .before .before .before) .small))
+    (λ c. turn (c .before) .small)
+    (λ c. let t = turn (c .before) in omega (arith, t .power, t .covered))
+    (λ c. let t = turn (c .before) in omega (arith, t .power, t .less))
     loop-again
     returns)

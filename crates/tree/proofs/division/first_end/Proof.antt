@@ -22,21 +22,6 @@ module _ (c : tie.Then1) where
   first-depth : ((asked .args .symbol - 128) * (length (now (asked .args .line)) + 1) + asked .args .start) * (length (now (asked .args .line)) + 1) + 0 < length (now (asked .args .depths))
   first-depth = depth-place _ _ _ _ 0 (asked .pre .1) (omega arith) (asked .pre .3 (c .if1 .taken) .1)
 
-mul-row : tie.Need-mul-row
-mul-row c = omega (arith, place c)
-
-add-row : tie.Need-add-row
-add-row c = omega (arith, place c)
-
-mul-shallow-end : tie.Need-mul-shallow-end
-mul-shallow-end c = omega (arith, first-depth c)
-
-mul-shallow-end-2 : tie.Need-mul-shallow-end-2
-mul-shallow-end-2 c = omega (arith, place c)
-
-shared-slice-read-shallow-end : tie.Need-shared-slice-read-shallow-end
-shared-slice-read-shallow-end c = place (c .before)
-
 shallow-end-requires : tie.Need-shallow-end-requires
 shallow-end-requires c κs e m =
     let s = asked (c .before) in
@@ -69,12 +54,8 @@ pub first-end-spec : {M : Type 1} → statement M
 first-end-spec =
     tie.close
     (tie.spec
-    (search needs)
-    mul-row
-    add-row
-    mul-shallow-end
-    mul-shallow-end-2
-    shared-slice-read-shallow-end
+    (search needs) (λ c. omega (arith, place c)) (λ c. omega (arith, place c))
+    (λ c. omega (arith, first-depth c)) (λ c. omega (arith, place c)) (λ c. place (c .before))
     shallow-end-requires
     returns
     returns-2

@@ -24,9 +24,6 @@ left c = sym (c .before .rule-left .ensures) ∙ c .if1 .left
 returns-2 : tie.Need-returns-2
 returns-2 c = serve-empty _ _ _ _ _ _ (left (c .before .before)) (ap length (sym (c .before .rule-symbols .ensures)) ∙ c .if2 .taken)
 
-cast-symbol : tie.Need-cast-symbol
-cast-symbol c = omega (arith, c .shared-slice-known4 .given 0)
-
 -- it has a symbol
 some : (c : tie.After-shared-slice-known4) → 0 < length (now (c .before .before .rule-symbols .result))
 some c = let n = c .before .if2 .left in omega arith
@@ -41,18 +38,6 @@ place c =
     let e = entry (y .before .before) in
     let q = y .rule-symbols .ensures in
     row-place _ _ _ _ (e .pre .2) (rw q (e .pre .3 (rw q at (some (c .before))) (rw q at (c .if3 .taken))))
-
-mul-row : tie.Need-mul-row
-mul-row c = omega (arith, place c)
-
-add-row-2 : tie.Need-add-row-2
-add-row-2 c = omega (arith, place c)
-
-mul-result : tie.Need-mul-result
-mul-result c = omega (arith, place c)
-
-shared-slice-read-result : tie.Need-shared-slice-read-result
-shared-slice-read-result c = place (c .before)
 
 returns-3 : tie.Need-returns-3
 returns-3 c =
@@ -88,12 +73,9 @@ may-serve-spec =
     (search needs)
     returns-2
     (search needs)
-    cast-symbol
-    (search needs)
-    mul-row
-    add-row-2
-    mul-result
-    shared-slice-read-result
+    (λ c. omega (arith, c .shared-slice-known4 .given 0))
+    (search needs) (λ c. omega (arith, place c)) (λ c. omega (arith, place c)) (λ c. omega (arith, place c))
+    (λ c. place (c .before))
     returns-3
     returns-4
     (search needs)

@@ -40,9 +40,6 @@ few : (c : tie.Else1 Inv-loop μ-loop) →
     (l .loop .d - 1 < length (now (asked (l .before) .args .symbols))) × (l .loop .d ≤ 8)
 few c = let l = c .before .before in (omega (arith, c .before .loop-test .taken, l .loop .inv .2 .low), omega (arith, asked (l .before) .pre .3, l .loop .inv .2 .low))
 
-shared-slice-read-starts-before : tie.Need-shared-slice-read-starts-before Inv-loop μ-loop
-shared-slice-read-starts-before c = few (c .before) .0
-
 cast-starts-before : tie.Need-cast-starts-before Inv-loop μ-loop
 cast-starts-before c = omega (arith, c .shared-slice-known5 .given (c .before .before .before .loop .d - 1))
 
@@ -51,15 +48,6 @@ starts-before-requires c κs =
     let l = c .before .before .before in
     let p = asked (l .before) .pre in
     (p .0, p .2, λ e m. l .loop .inv .2 .inside _ e (rw (l .loop .inv .1) at m), p .4 _ (few (c .before) .0))
-
-mul-sets-2 : tie.Need-mul-sets-2 Inv-loop μ-loop
-mul-sets-2 c = omega (arith, few (c .before .before))
-
-array-write-sets-2 : tie.Need-array-write-sets-2 Inv-loop μ-loop
-array-write-sets-2 c = omega (arith, few (c .before .before))
-
-loop-less : tie.Need-loop-less Inv-loop μ-loop
-loop-less c = omega (arith, c .before .before .before .loop-test .taken)
 
 loop-again : tie.Need-loop-again Inv-loop μ-loop
 loop-again c =
@@ -84,12 +72,10 @@ sets-before-spec =
     (search needs) (search needs) (search needs)
     loop-holds
     returns
-    (search needs)
-    shared-slice-read-starts-before
+    (search needs) (λ c. few (c .before) .0)
     cast-starts-before
     starts-before-requires
-    mul-sets-2
-    array-write-sets-2
-    loop-less
+    (λ c. omega (arith, few (c .before .before))) (λ c. omega (arith, few (c .before .before)))
+    (λ c. omega (arith, c .before .before .before .loop-test .taken))
     loop-again
     returns-2)

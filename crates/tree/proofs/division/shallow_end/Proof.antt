@@ -34,15 +34,6 @@ module _ (c : tie.After-first Inv-loop μ-loop) where
 loop-holds : tie.Need-loop-holds Inv-loop μ-loop
 loop-holds c = (omega arith, λ e m. m, λ e m n. absurd (n m))
 
-add-if1 : tie.Need-add-if1 Inv-loop μ-loop
-add-if1 c = omega (arith, room c)
-
-mul-if1 : tie.Need-mul-if1 Inv-loop μ-loop
-mul-if1 c = omega (arith, room c)
-
-shared-slice-read-if1 : tie.Need-shared-slice-read-if1 Inv-loop μ-loop
-shared-slice-read-if1 c = room (c .before)
-
 returns : tie.Need-returns Inv-loop μ-loop
 returns c =
     let f = c .before .before in
@@ -51,15 +42,6 @@ returns c =
       none = λ e k p. ⊎-elim (λ m. f .first .ensures .noneBelow e k m) (λ n. l .inv .2 e (p .0) n (p .1)) (member? (l .left) e);
       found = λ k. (l .inv .1 _ (turn f .here), c .if1 .taken);
     }
-
-shl-left : tie.Need-shl-left Inv-loop μ-loop
-shl-left c = turn (c .before .before) .small
-
-sub-left : tie.Need-sub-left Inv-loop μ-loop
-sub-left c = let t = turn (c .before .before) in omega (arith, t .power, t .covered)
-
-loop-less : tie.Need-loop-less Inv-loop μ-loop
-loop-less c = let t = turn (c .before .before) in omega (arith, t .power, t .less)
 
 loop-again : tie.Need-loop-again Inv-loop μ-loop
 loop-again c =
@@ -88,13 +70,11 @@ shallow-end-spec =
     Inv-loop
     μ-loop
     loop-holds
-    (search needs) (search needs)
-    add-if1
-    mul-if1
-    shared-slice-read-if1
+    (search needs) (search needs) (λ c. omega (arith, room c)) (λ c. omega (arith, room c))
+    (λ c. room (c .before))
     returns
-    shl-left
-    sub-left
-    loop-less
+    (λ c. turn (c .before .before) .small)
+    (λ c. let t = turn (c .before .before) in omega (arith, t .power, t .covered))
+    (λ c. let t = turn (c .before .before) in omega (arith, t .power, t .less))
     loop-again
     returns-2)

@@ -17,9 +17,6 @@ abbrev μ-loop : tie.MeasureT-loop
 abbrev entry : tie.After-shared-slice-known3 Inv-loop μ-loop → tie.Start Inv-loop μ-loop
 entry c = c .before .before .before
 
-class-starts-requires : tie.Need-class-starts-requires Inv-loop μ-loop
-class-starts-requires c κs = let p = entry (c .before) .pre in (p .0, λ e m. le-trans (p .2 e m) (p .1))
-
 returns : tie.Need-returns Inv-loop μ-loop
 returns c = let p = entry (c .before .before) .pre in class-before _ _ _ _ _ _ _ _ _ (c .before .if1 .taken) (p .1) (p .2) (c .class-starts .ensures)
 
@@ -51,7 +48,7 @@ starts-before-spec =
     (tie.spec
     Inv-loop
     μ-loop
-    class-starts-requires
+    (λ c κs. let p = entry (c .before) .pre in (p .0, λ e m. le-trans (p .2 e m) (p .1)))
     returns
     loop-holds
     first-end-requires

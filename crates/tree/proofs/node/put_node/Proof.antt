@@ -7,15 +7,6 @@ use Rattle.tree.proofs.ByteLaws.{kind-four, wrote-four}
 use Rattle.tree.proofs.node.put_node.Statement.{statement}
 use Rattle.tree.proofs.node.put_node.Tie as tie
 
-slice-write-out-2 : tie.Need-slice-write-out-2
-slice-write-out-2 c = simp length-set (omega arith)
-
-slice-write-out-3 : tie.Need-slice-write-out-3
-slice-write-out-3 c = simp length-set (omega arith)
-
-slice-write-out-4 : tie.Need-slice-write-out-4
-slice-write-out-4 c = simp length-set (omega arith)
-
 returns : tie.Need-returns
 returns c = (
   refl,
@@ -28,10 +19,6 @@ put-node-spec =
     tie.close
     (tie.spec
     (search needs) (search needs) (search needs) (search needs) (search needs)
-    slice-write-out-2
-    (search needs) (search needs)
-    slice-write-out-3
-    (search needs) (search needs)
-    slice-write-out-4
-    (search needs) (search needs)
+    (λ c. simp length-set (omega arith)) (search needs) (search needs) (λ c. simp length-set (omega arith))
+    (search needs) (search needs) (λ c. simp length-set (omega arith)) (search needs) (search needs)
     returns)
