@@ -58,18 +58,12 @@ few c =
 loop-holds : tie.Need-loop-holds Inv-loop μ-loop
 loop-holds c = (search needs, sym (start-none _ _), sym (total-none _))
 
-count-rule-requires : tie.Need-count-rule-requires Inv-loop μ-loop
-count-rule-requires c κs = (entry (c .before) .pre .0, (c .before .loop .p, here c))
-
 add-records : tie.Need-add-records Inv-loop μ-loop
 add-records c =
     let i = c .before in
     let e = entry (i .before) in
     let l = i .before .loop in
     omega (arith, counted c, l .inv .2, total-next (ruleTotal (now (e .args .g)) (now (e .args .line))) (l .p), few i)
-
-rule-after-requires : tie.Need-rule-after-requires Inv-loop μ-loop
-rule-after-requires c κs = here (c .before) .found .stands
 
 loop-again : tie.Need-loop-again Inv-loop μ-loop
 loop-again c =
@@ -95,9 +89,8 @@ count-records-spec =
     Inv-loop
     μ-loop
     loop-holds
-    count-rule-requires
+    (λ c κs. (entry (c .before) .pre .0, (c .before .loop .p, here c)))
     add-records
-    rule-after-requires
-    (search needs) (search needs)
+    (λ c κs. here (c .before) .found .stands) (search needs) (search needs)
     loop-again
     returns)

@@ -24,9 +24,6 @@ abbrev μ-loop : tie.MeasureT-loop
 abbrev entry : tie.At-loop Inv-loop μ-loop → tie.Start Inv-loop μ-loop
 entry c = c .before .before .before .before .before
 
-rule-length-requires : tie.Need-rule-length-requires Inv-loop μ-loop
-rule-length-requires c κs = c .before .before .before .pre .1 .1 .found .stands
-
 loop-holds : tie.Need-loop-holds Inv-loop μ-loop
 loop-holds c = (search needs, sym (total-none _))
 
@@ -63,7 +60,7 @@ count-rule-spec =
     (tie.spec
     Inv-loop
     μ-loop
-    rule-length-requires
+    (λ c κs. c .before .before .before .pre .1 .1 .found .stands)
     loop-holds
     count-place-requires
     add-records

@@ -29,24 +29,6 @@ small c = omega (arith, c .if1 .left, symbol-is (c .before))
 few : (c : tie.Then1) → let a = entry (c .before) .args in (getD (now (c .before .before .rule-symbols .result)) (a .d) 0 - 128) * (length (now (a .line)) + 1) + a .m < 2048
 few c = let e = entry (c .before) in rw (symbol-is (c .before)) (in-few _ _ _ (e .pre .0) _ (e .pre .1) _ _ (e .pre .2) (e .pre .3) (big c))
 
-rule-symbols-requires : tie.Need-rule-symbols-requires
-rule-symbols-requires c κs = c .before .before .before .pre .1 .1 .found .stands
-
-shared-slice-read-symbol : tie.Need-shared-slice-read-symbol
-shared-slice-read-symbol c = rw (c .before .rule-symbols .ensures) (entry c .pre .2)
-
-cast-symbol : tie.Need-cast-symbol
-cast-symbol c = omega (arith, c .shared-slice-known4 .given (entry c .args .d))
-
-mul-result : tie.Need-mul-result
-mul-result c = omega (arith, few c)
-
-add-result-2 : tie.Need-add-result-2
-add-result-2 c = omega (arith, few c)
-
-mul-result-2 : tie.Need-mul-result-2
-mul-result-2 c = omega (arith, few c)
-
 shared-slice-read-result : tie.Need-shared-slice-read-result
 shared-slice-read-result c = let e = entry (c .before .before) in rw (symbol-is (c .before .before)) (in-words _ _ _ (e .pre .0) _ (e .pre .1) _ _ (e .pre .2) (e .pre .3) (big (c .before)))
 
@@ -78,13 +60,10 @@ pub symbol-ends-spec : {M : Type 1} → statement M
 symbol-ends-spec =
     tie.close
     (tie.spec
-    rule-symbols-requires
-    shared-slice-read-symbol
-    cast-symbol
-    (search needs)
-    mul-result
-    add-result-2
-    mul-result-2
+    (λ c κs. c .before .before .before .pre .1 .1 .found .stands)
+    (λ c. rw (c .before .rule-symbols .ensures) (entry c .pre .2))
+    (λ c. omega (arith, c .shared-slice-known4 .given (entry c .args .d)))
+    (search needs) (λ c. omega (arith, few c)) (λ c. omega (arith, few c)) (λ c. omega (arith, few c))
     shared-slice-read-result
     returns
     returns-2

@@ -24,9 +24,6 @@ entry c = c .before .before .before .before .before
 loop-holds : tie.Need-loop-holds Inv-loop μ-loop
 loop-holds c = (omega arith, search needs, λ m j a b. absurd (omega arith))
 
-member-requires : tie.Need-member-requires Inv-loop μ-loop
-member-requires c κs = let e = entry c in omega (arith, c .loop-test .taken, e .pre .0 .isLine .short)
-
 symbol-ends-requires : tie.Need-symbol-ends-requires Inv-loop μ-loop
 symbol-ends-requires c κs = let e = entry (c .before .before) in (e .pre .0, e .pre .1, e .pre .2, omega (arith, c .before .before .loop-test .taken))
 
@@ -78,7 +75,7 @@ seek-middle-spec =
     μ-loop
     (search needs)
     loop-holds
-    member-requires
+    (λ c κs. let e = entry c in omega (arith, c .loop-test .taken, e .pre .0 .isLine .short))
     symbol-ends-requires
     returns
     (search needs) (search needs)

@@ -36,12 +36,6 @@ rule-long c = omega (arith, c .before .rule-length .ensures .0, c .before .rule-
 loop-holds : tie.Need-loop-holds Inv-loop μ-loop
 loop-holds c = let e = c .before .before .before in record { few = e .pre .1; place = e .pre .2; low = omega (arith, e .pre .3); inside = e .pre .4; same = refl }
 
-rule-length-requires : tie.Need-rule-length-requires Inv-loop μ-loop
-rule-length-requires c κs = here c .found .stands
-
-rule-after-requires : tie.Need-rule-after-requires Inv-loop μ-loop
-rule-after-requires c κs = here (c .before .before) .found .stands
-
 add-p : tie.Need-add-p Inv-loop μ-loop
 add-p c = let i = c .before .before .before in omega (arith, here i .below, rules-few _ _ _ (entry (i .before) .pre .0))
 
@@ -88,9 +82,6 @@ loop-again-2 c =
     let i = t .before .before .before in
     search-start _ _ _ (entry (i .before) .pre .0) _ _ _ _ _ _ _ (i .before .loop .inv) (here i) (symbol (t .before)) (omega (arith, t .if2 .taken)) _ (s .before .prefix-ends .ensures) _ (s .seek-middle .ensures) (c .if3 .left)
 
-add-e : tie.Need-add-e Inv-loop μ-loop
-add-e c = omega (arith, symbol (c .before), rule-long (c .before))
-
 loop-less-3 : tie.Need-loop-less-3 Inv-loop μ-loop
 loop-less-3 c = let i = c .before .before .before in omega (arith, symbol (c .before), rule-long (c .before), i .before .loop .inv .inside, entry (i .before) .pre .0 .isLine .short)
 
@@ -110,8 +101,8 @@ seek-record-spec =
     μ-loop
     (search needs)
     loop-holds
-    rule-length-requires
-    rule-after-requires
+    (λ c κs. here c .found .stands)
+    (λ c κs. here (c .before .before) .found .stands)
     add-p
     loop-less
     loop-again
@@ -122,7 +113,7 @@ seek-record-spec =
     (search needs)
     loop-less-2
     loop-again-2
-    add-e
+    (λ c. omega (arith, symbol (c .before), rule-long (c .before)))
     loop-less-3
     loop-again-3
     returns-2)

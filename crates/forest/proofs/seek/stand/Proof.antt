@@ -17,9 +17,6 @@ small c =
     let n : c .first .result ≡ 64 → ⊥ = λ q. omega (arith, e .0 q, c .before .pre .4) in
     omega (arith, c .first .ensures .within)
 
-shl-t18 : tie.Need-shl-t18
-shl-t18 c = small c
-
 sub-t19 : tie.Need-sub-t19
 sub-t19 c = rw (one-shifted (c .first .result) (small c)) (one-le _ _ (c .first .ensures .found (small c)))
 
@@ -41,6 +38,6 @@ stand-spec =
     (tie.spec
     (search needs) (search needs) (search needs) (search needs) (search needs) (search needs) (search needs)
     (search needs)
-    shl-t18
+    small
     sub-t19
     returns)
