@@ -27,9 +27,6 @@ loop-holds c =
     let some = decimal-some (c .before .before .args .n) in
     (omega (arith, count, some), omega (arith, count, some, c .before .before .pre), refl, refl)
 
-slice-write-out : tie.Need-slice-write-out Inv-loop μ-loop
-slice-write-out c = let l = c .before .loop in omega (arith, l .inv .1, l .inv .2)
-
 sub-place-2 : tie.Need-sub-place-2 Inv-loop μ-loop
 sub-place-2 c =
     let l = c .before .loop in
@@ -46,12 +43,6 @@ loop-again c =
       rw length-set (l .inv .2),
       wrote-more _ _ (l .rest) _ h (l .inv .0) (omega (arith, l .inv .1, l .inv .2)) ∙ l .inv .3,
     )
-
-slice-write-out-2 : tie.Need-slice-write-out-2 Inv-loop μ-loop
-slice-write-out-2 c = let l = c .before .loop in omega (arith, l .inv .1, l .inv .2)
-
-same-length : tie.Need-same-length Inv-loop μ-loop
-same-length c = rw length-set (c .before .loop .inv .2)
 
 returns : tie.Need-returns Inv-loop μ-loop
 returns c =
@@ -71,11 +62,11 @@ write-decimal-spec =
     sub-place
     loop-holds
     (search needs) (search needs)
-    slice-write-out
+    (λ c. let l = c .before .loop in omega (arith, l .inv .1, l .inv .2))
     sub-place-2
     (search needs)
     loop-again
     (search needs) (search needs)
-    slice-write-out-2
-    same-length
+    (λ c. let l = c .before .loop in omega (arith, l .inv .1, l .inv .2))
+    (λ c. rw length-set (c .before .loop .inv .2))
     returns)

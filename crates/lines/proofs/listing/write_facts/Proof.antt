@@ -25,9 +25,6 @@ few c k l = let a = c .before .before .args in fact-few (a .depths .now) (a .wid
 loop-holds : tie.Need-loop-holds Inv-loop μ-loop
 loop-holds c = let start = c .before .before in (omega arith, gather-none 29 _ (factLineAt (start .args .depths .now) (start .args .width)) (few c) (start .pre .3))
 
-cast-depth : tie.Need-cast-depth Inv-loop μ-loop
-cast-depth c = omega (arith, c .shared-slice-known2 .given (c .before .before .loop .q))
-
 write-fact-requires : tie.Need-write-fact-requires Inv-loop μ-loop
 write-fact-requires c κs =
     let here = c .before .before .before in
@@ -70,7 +67,7 @@ write-facts-spec =
     μ-loop
     loop-holds
     (search needs) (search needs) (search needs)
-    cast-depth
+    (λ c. omega (arith, c .shared-slice-known2 .given (c .before .before .loop .q)))
     (search needs) (search needs) (search needs)
     write-fact-requires
     (search needs) (search needs)

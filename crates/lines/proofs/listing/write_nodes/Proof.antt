@@ -29,17 +29,11 @@ few c k l = node-few (c .before .before .args .nodes .now) k (λ i. omega (arith
 loop-holds : tie.Need-loop-holds Inv-loop μ-loop
 loop-holds c = (omega arith, gather-none 21 _ (nodeLineAt (c .before .before .args .nodes .now)) (few c) (c .before .before .pre .1))
 
-cast-t13 : tie.Need-cast-t13 Inv-loop μ-loop
-cast-t13 c = omega (arith, c .shared-slice-known2 .given (4 * c .before .before .loop .k))
-
 cast-t17 : tie.Need-cast-t17 Inv-loop μ-loop
 cast-t17 c = omega (arith, c .shared-slice-known3 .given (4 * c .before .before .before .loop .k + 1))
 
 cast-t21 : tie.Need-cast-t21 Inv-loop μ-loop
 cast-t21 c = let read = c .before in omega (arith, c .shared-slice-known4 .given (4 * read .before .before .before .loop .k + 2))
-
-cast-t25 : tie.Need-cast-t25 Inv-loop μ-loop
-cast-t25 c = omega (arith, c .shared-slice-known5 .given (4 * turn c .loop .k + 3))
 
 write-line-requires : tie.Need-write-line-requires Inv-loop μ-loop
 unfolding numbered lineOf text
@@ -78,13 +72,13 @@ write-nodes-spec =
     μ-loop
     loop-holds
     (search needs) (search needs)
-    cast-t13
+    (λ c. omega (arith, c .shared-slice-known2 .given (4 * c .before .before .loop .k)))
     (search needs) (search needs)
     cast-t17
     (search needs) (search needs)
     cast-t21
     (search needs) (search needs)
-    cast-t25
+    (λ c. omega (arith, c .shared-slice-known5 .given (4 * turn c .loop .k + 3)))
     (search needs) (search needs)
     write-line-requires
     (search needs) (search needs)

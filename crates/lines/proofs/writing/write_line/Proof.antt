@@ -23,14 +23,8 @@ word c = c .before .before .before .before
 room : (c : tie.After-write-bytes-arg) → let a = entry c .args in a .at + (length (now (a .word)) + (length (spaced (map decimal (now (a .numbers)))) + 1)) ≤ length (now (a .out))
 room c = let a = entry c .args in omega (arith, line-long (now (a .word)) (spaced (map decimal (now (a .numbers)))), entry c .pre .1)
 
-write-bytes-requires : tie.Need-write-bytes-requires
-write-bytes-requires c κs = omega (arith, room c)
-
 write-numbers-requires : tie.Need-write-numbers-requires
 write-numbers-requires c κs = let begun = c .before .before .before in (entry (begun .before) .pre .0, omega (arith, room (begun .before)))
-
-write-byte-requires : tie.Need-write-byte-requires
-write-byte-requires c κs = omega (arith, room (word (c .before .before .before) .before))
 
 returns : tie.Need-returns
 returns c =
@@ -43,4 +37,9 @@ returns c =
 pub write-line-spec : {M : Type 1} → statement M
 write-line-spec =
     tie.close
-    (tie.spec write-bytes-requires write-numbers-requires write-byte-requires (search needs) returns)
+    (tie.spec
+    (λ c κs. omega (arith, room c))
+    write-numbers-requires
+    (λ c κs. omega (arith, room (word (c .before .before .before) .before)))
+    (search needs)
+    returns)

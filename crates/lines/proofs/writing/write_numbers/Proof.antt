@@ -51,9 +51,6 @@ loop-again c =
     let more = numbers-room (entry here .args .numbers .now) (here .loop .i) (omega arith) in
     (omega arith, rw (numbers-more (entry here .args .numbers .now) (here .loop .i) (omega arith)) (stored-then (omega (arith, more)) (here .loop .inv .1) (stored-then (omega (arith, long here, more)) (begun .write-byte .ensures) (c .before .before .write-decimal .ensures))))
 
-same-length : tie.Need-same-length Inv-loop μ-loop
-same-length c = long (c .before)
-
 returns : tie.Need-returns Inv-loop μ-loop
 returns c = let here = c .before in rw (take-all (here .loop .i) (entry here .args .numbers .now) (c .loop-test .left)) at (here .loop .inv .1)
 
@@ -69,5 +66,5 @@ write-numbers-spec =
     write-decimal-requires
     (search needs) (search needs)
     loop-again
-    same-length
+    (λ c. long (c .before))
     returns)

@@ -29,12 +29,6 @@ other c = c .before .before .before .before
 few : (c : tie.Start) → (length (spaced (decimal (c .args .rounds) ∷ [])) ≤ 21) × (length (spaced (decimal (c .args .facts) ∷ [])) ≤ 21) × (64 ≤ length (now (c .args .out)))
 few c = (one-few 19 _ (omega arith), one-few 19 _ (omega arith), c .pre)
 
-write-numbers-requires : tie.Need-write-numbers-requires
-write-numbers-requires c κs = (omega arith, omega (arith, few (entry (word c))))
-
-write-bytes-requires-2 : tie.Need-write-bytes-requires-2
-write-bytes-requires-2 c κs = omega (arith, few (entry (word (first c .before))))
-
 write-numbers-requires-2 : tie.Need-write-numbers-requires-2
 write-numbers-requires-2 c κs = (omega arith, omega (arith, few (entry (word (first (other c .before) .before)))))
 
@@ -62,9 +56,9 @@ write-rounds-spec =
     tie.close
     (tie.spec
     (search needs) (search needs) (search needs)
-    write-numbers-requires
+    (λ c κs. (omega arith, omega (arith, few (entry (word c)))))
     (search needs)
-    write-bytes-requires-2
+    (λ c κs. omega (arith, few (entry (word (first c .before)))))
     (search needs)
     write-numbers-requires-2
     write-byte-requires
