@@ -17,9 +17,6 @@ returns c =
     let past : 0 < a .number = omega arith in
     piece-none (refusedLine (a .refusal) ∷ []) (a .number) false (sym (le-ltb (suc (a .number)) 1 (omega arith))) (none-after-one (refusedLine (a .refusal)) (a .number) past)
 
-refused-line-requires : tie.Need-refused-line-requires
-refused-line-requires c κs = omega (arith, c .before .before .before .pre)
-
 returns-2 : tie.Need-returns-2
 returns-2 c =
     let call = c .before .before .before in
@@ -28,4 +25,6 @@ returns-2 c =
     rw e (piece-stored (refusedLine (a .refusal) ∷ []) 0 false refl (refusedLine (a .refusal)) refl (c .before .before .refused-line .ensures .0))
 
 pub refused-piece-spec : {M : Type 1} → statement M
-refused-piece-spec = tie.close (tie.spec returns refused-line-requires (search needs) returns-2)
+refused-piece-spec =
+    tie.close
+    (tie.spec returns (λ c κs. omega (arith, c .before .before .before .pre)) (search needs) returns-2)

@@ -20,27 +20,6 @@ read c = job-read _ _ (sym (c .before .before .read-job .ensures) ∙ c .job .gi
 abbrev told : tie.After-job-piece-arg → tie.After-job
 told c = c .before .before .before .before
 
-add-line-at : tie.Need-add-line-at
-add-line-at c = omega (arith, read (c .before .before) .whole)
-
-add-line-end : tie.Need-add-line-end
-add-line-end c = omega (arith, read (c .before .before .before) .whole)
-
-add-questions-at : tie.Need-add-questions-at
-add-questions-at c = omega (arith, read (c .before .before .before) .whole)
-
-part-job-piece-end : tie.Need-part-job-piece-end
-part-job-piece-end c = omega (arith, read (c .before .before .before) .whole)
-
-part-job-piece-end-2 : tie.Need-part-job-piece-end-2
-part-job-piece-end-2 c = omega (arith, read (told c) .whole)
-
-sub-job-piece-3 : tie.Need-sub-job-piece-3
-sub-job-piece-3 c = omega (arith, read (told (c .before)) .whole)
-
-part-job-piece-start-3 : tie.Need-part-job-piece-start-3
-part-job-piece-start-3 c = omega (arith, read (told (c .before)) .whole)
-
 returns : tie.Need-returns
 unfolding pieces
 returns c =
@@ -64,15 +43,14 @@ write-piece-spec =
     tie.close
     (tie.spec
     (search needs) (search needs) (search needs) (search needs)
-    add-line-at
-    add-line-end
-    add-questions-at
+    (λ c. omega (arith, read (c .before .before) .whole))
+    (λ c. omega (arith, read (c .before .before .before) .whole))
+    (λ c. omega (arith, read (c .before .before .before) .whole))
     (search needs) (search needs) (search needs)
-    part-job-piece-end
-    (search needs) (search needs)
-    part-job-piece-end-2
-    sub-job-piece-3
-    part-job-piece-start-3
+    (λ c. omega (arith, read (c .before .before .before) .whole))
+    (search needs) (search needs) (λ c. omega (arith, read (told c) .whole))
+    (λ c. omega (arith, read (told (c .before)) .whole))
+    (λ c. omega (arith, read (told (c .before)) .whole))
     (search needs) (search needs) (search needs)
     returns
     (search needs)

@@ -34,30 +34,9 @@ returns-2 : tie.Need-returns-2
 unfolding jobOf
 returns-2 c = simp (le-ltb _ _ (c .before .if1 .left), lt-ltb _ _ (c .if2 .taken))
 
-cast-grammar : tie.Need-cast-grammar
-cast-grammar c = omega (arith, c .shared-slice-known .given 0)
-
-cast-grammar-2 : tie.Need-cast-grammar-2
-cast-grammar-2 c = omega (arith, c .shared-slice-known2 .given 1)
-
-mul-grammar : tie.Need-mul-grammar
-mul-grammar c = omega (arith, c .shared-slice-known2 .given 0, c .shared-slice-known2 .given 1)
-
-add-grammar : tie.Need-add-grammar
-add-grammar c = omega (arith, c .shared-slice-known2 .given 0, c .shared-slice-known2 .given 1)
-
-add-if3 : tie.Need-add-if3
-add-if3 c = omega (arith, c .shared-slice-known2 .given 0, c .shared-slice-known2 .given 1)
-
 returns-3 : tie.Need-returns-3
 unfolding jobOf
 returns-3 c = let e = c .before .before .before in simp (le-ltb _ _ (e .before .if1 .left), le-ltb _ _ (e .if2 .left), lt-ltb _ _ (c .if3 .taken))
-
-cast-line : tie.Need-cast-line
-cast-line c = omega (arith, c .shared-slice-known3 .given (2 + grammarCount (input c)))
-
-add-if4-2 : tie.Need-add-if4-2
-add-if4-2 c = omega (arith, c .shared-slice-known3 .given (2 + grammarCount (input c)))
 
 returns-4 : tie.Need-returns-4
 unfolding jobOf
@@ -65,15 +44,6 @@ returns-4 c =
     let line = c .before .before in
     let grammar = line .before .before .before in
     simp (le-ltb _ _ (grammar .before .if1 .left), le-ltb _ _ (grammar .if2 .left), le-ltb _ _ (line .if3 .left), lt-ltb _ _ (c .if4 .taken))
-
-cast-questions : tie.Need-cast-questions
-cast-questions c = omega (arith, few c)
-
-mul-end : tie.Need-mul-end
-mul-end c = omega (arith, few c)
-
-add-end-3 : tie.Need-add-end-3
-add-end-3 c = omega (arith, few c)
 
 returns-5 : tie.Need-returns-5
 returns-5 c = simp (sound (c .before .before), lt-ltb _ _ (c .if5 .taken))
@@ -91,23 +61,20 @@ read-job-spec =
     returns
     returns-2
     (search needs)
-    cast-grammar
+    (λ c. omega (arith, c .shared-slice-known .given 0))
     (search needs)
-    cast-grammar-2
-    mul-grammar
-    add-grammar
-    add-if3
+    (λ c. omega (arith, c .shared-slice-known2 .given 1))
+    (λ c. omega (arith, c .shared-slice-known2 .given 0, c .shared-slice-known2 .given 1))
+    (λ c. omega (arith, c .shared-slice-known2 .given 0, c .shared-slice-known2 .given 1))
+    (λ c. omega (arith, c .shared-slice-known2 .given 0, c .shared-slice-known2 .given 1))
     returns-3
     (search needs) (search needs)
-    cast-line
+    (λ c. omega (arith, c .shared-slice-known3 .given (2 + grammarCount (input c))))
     (search needs)
-    add-if4-2
+    (λ c. omega (arith, c .shared-slice-known3 .given (2 + grammarCount (input c))))
     returns-4
-    (search needs) (search needs) (search needs)
-    cast-questions
-    (search needs) (search needs)
-    mul-end
-    add-end-3
+    (search needs) (search needs) (search needs) (λ c. omega (arith, few c)) (search needs) (search needs)
+    (λ c. omega (arith, few c)) (λ c. omega (arith, few c))
     returns-5
     returns-6
     returns-7)

@@ -26,9 +26,6 @@ few c = (three-few 2 _ _ _ (omega arith) (omega arith) (omega arith), entry c .p
 abbrev written : tie.After-tree → tie.After-write-line
 written c = c .before .before .before .before .before .before
 
-write-line-requires : tie.Need-write-line-requires
-write-line-requires c κs = (omega arith, omega (arith, few c))
-
 refused-line-requires : tie.Need-refused-line-requires
 refused-line-requires c κs =
     let told = c .before .before in
@@ -71,8 +68,7 @@ pub write-tree-spec : {M : Type 1} → statement M
 write-tree-spec =
     tie.close
     (tie.spec
-    (search needs) (search needs)
-    write-line-requires
+    (search needs) (search needs) (λ c κs. (omega arith, omega (arith, few c)))
     (search needs) (search needs) (search needs) (search needs) (search needs)
     refused-line-requires
     (search needs) (search needs)
