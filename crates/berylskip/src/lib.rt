@@ -148,7 +148,10 @@ pub extern "C" fn berylskip_tree_nonnull(
 
 // The number of records, or the refusal, of a forest's answer.
 fn hand_records(answer: ForestAnswer, records: &mut usize, place: &mut usize) -> u8
-    ensures { λ r. ⌜ handed (forestTold answer) (now (records .entry) ∷ []) (now (place .entry)) ≡ numbers r (now (records .exit) ∷ []) (now (place .exit)) ⌝ }
+    ensures { λ r. ⌜
+        handed (forestTold answer) (now (records .entry) ∷ []) (now (place .entry))
+        ≡ numbers r (now (records .exit) ∷ []) (now (place .exit))
+        ⌝ }
 {
     match answer {
         ForestAnswer::Refused(refusal) => refuse(refusal, place),

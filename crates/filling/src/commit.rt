@@ -29,7 +29,11 @@ pub fn commit_rows(
     depth: u16,
 ) -> bool
     requires { ⌜ Ready to width (now words) (now next) (now depths) × (to ≤ 2048) ⌝ }
-    ensures { λ r. ⌜ RowsCommitted from to width depth (now (words .entry)) (now (next .entry)) (now (depths .entry)) (now (words .exit)) (now (depths .exit)) r ⌝ }
+    ensures { λ r. ⌜
+        RowsCommitted from to width depth
+        (now (words .entry)) (now (next .entry)) (now (depths .entry))
+        (now (words .exit)) (now (depths .exit)) r
+        ⌝ }
 {
     let mut gained = false;
     let mut q = from;
@@ -56,7 +60,11 @@ pub fn commit(
     depth: u16,
 ) -> u64
     requires { ⌜ Ready (categories * width) width (now words) (now next) (now depths) × (categories ≤ 32) × (width ≤ 64) ⌝ }
-    ensures { λ r. ⌜ AllCommitted categories width depth (now (words .entry)) (now (next .entry)) (now (depths .entry)) (now (words .exit)) (now (depths .exit)) r ⌝ }
+    ensures { λ r. ⌜
+        AllCommitted categories width depth
+        (now (words .entry)) (now (next .entry)) (now (depths .entry))
+        (now (words .exit)) (now (depths .exit)) r
+        ⌝ }
 {
     let mut changed = 0u64;
     let mut a = 0;

@@ -36,7 +36,11 @@ pub fn apply(
     next: &mut [u64; 2048],
 )
     requires { ⌜ Room (now symbols) (now words) (now places) width × (left < 32) × (length (now next) ≡ 2048) ⌝ }
-    ensures { λ _. ⌜ Applied (now (symbols .entry)) (now (words .entry)) (now (places .entry)) (left * width) width (now (next .entry)) (now (next .exit)) ⌝ }
+    ensures { λ _. ⌜
+        Applied (now (symbols .entry)) (now (words .entry)) (now (places .entry)) (left * width) width
+        (now (next .entry))
+        (now (next .exit))
+        ⌝ }
 {
     let base = left * width;
     let mut start = 0;

@@ -79,7 +79,11 @@ struct Plan {
 
 // Checks, fills the work memory and counts the records; a refusal has no record to write.
 fn prepare(g: &[u8], line: &[u8], words: &mut [u64], depths: &mut [u16], room: usize) -> Plan
-    ensures { λ r. ⌜ Planned (now (g .entry)) (now (line .entry)) (now (words .entry)) (now (depths .entry)) room (now (words .exit)) (now (depths .exit)) r ⌝ }
+    ensures { λ r. ⌜
+        Planned (now (g .entry)) (now (line .entry))
+        (now (words .entry)) (now (depths .entry)) room
+        (now (words .exit)) (now (depths .exit)) r
+        ⌝ }
 {
     let blank = Cursor {
         branch: Branch {

@@ -33,7 +33,11 @@ fn write_fact(
 // Writes the lines of facts whose depths are so many numbers in rows of a width.
 pub fn write_facts(out: &mut [u8], at: usize, depths: &[u16], numbers: usize, width: usize) -> usize
     requires { ⌜ (0 < width) × (numbers ≤ length (now depths)) × (numbers ≤ 16384) × (at + 29 * numbers ≤ length (now out)) ⌝ }
-    ensures { λ r. ⌜ Stored (now (out .entry)) at (gathered numbers (factLineAt (now (depths .entry)) width)) (now (out .exit)) r × (r ≤ at + 29 * numbers) ⌝ }
+    ensures { λ r. ⌜
+        Stored (now (out .entry)) at
+        (gathered numbers (factLineAt (now (depths .entry)) width))
+        (now (out .exit)) r × (r ≤ at + 29 * numbers)
+        ⌝ }
 {
     let mut place = at;
     let mut q = 0;

@@ -47,7 +47,11 @@ pub fn write_numbers(out: &mut [u8], at: usize, numbers: &[usize]) -> usize
 // Writes a line of a word and numbers.
 pub fn write_line(out: &mut [u8], at: usize, word: &[u8], numbers: &[usize]) -> usize
     requires { ⌜ (length (now numbers) ≤ 4) × (at + length (now word ++ (spaced (map decimal (now numbers)) ++ (10 ∷ []))) ≤ length (now out)) ⌝ }
-    ensures { λ r. ⌜ Stored (now (out .entry)) at (now (word .entry) ++ (spaced (map decimal (now (numbers .entry))) ++ (10 ∷ []))) (now (out .exit)) r ⌝ }
+    ensures { λ r. ⌜
+        Stored (now (out .entry)) at
+        (now (word .entry) ++ (spaced (map decimal (now (numbers .entry))) ++ (10 ∷ [])))
+        (now (out .exit)) r
+        ⌝ }
 {
     let numbered = write_bytes(out, at, word);
     let ended = write_numbers(out, numbered, numbers);

@@ -55,7 +55,11 @@ fn answer_piece(
     out: &mut [u8],
 ) -> Piece
     requires { ⌜ JobPasses (now g) (now line) s × (475200 ≤ length (now out)) ⌝ }
-    ensures { λ r. ⌜ Yielded (answerPieces (now (g .entry)) (now (line .entry)) (questionsOf (now (questions .entry)))) number (now (out .entry)) (now (out .exit)) r ⌝ }
+    ensures { λ r. ⌜
+        Yielded
+        (answerPieces (now (g .entry)) (now (line .entry)) (questionsOf (now (questions .entry)))) number
+        (now (out .entry)) (now (out .exit)) r
+        ⌝ }
 {
     let count = questions.len() / 3;
     let more = number < count + 1;
@@ -89,7 +93,11 @@ fn answer_piece(
 // A piece of a job that was read: the chart's refusal alone, or else the answers.
 fn job_piece(g: &[u8], line: &[u8], questions: &[u8], number: usize, out: &mut [u8]) -> Piece
     requires { ⌜ 475200 ≤ length (now out) ⌝ }
-    ensures { λ r. ⌜ Yielded (chartPieces (now (g .entry)) (now (line .entry)) (questionsOf (now (questions .entry)))) number (now (out .entry)) (now (out .exit)) r ⌝ }
+    ensures { λ r. ⌜
+        Yielded
+        (chartPieces (now (g .entry)) (now (line .entry)) (questionsOf (now (questions .entry)))) number
+        (now (out .entry)) (now (out .exit)) r
+        ⌝ }
 {
     match checked(g, line, Asked::Nothing, 512, 16384) {
         Reading::Refused(refusal) => refused_piece(refusal, number, out),

@@ -32,7 +32,12 @@ pub fn refused_line(out: &mut [u8], at: usize, refusal: Refusal) -> usize
 // Writes rounds and facts, and a line for each fact.
 pub fn write_chart(g: &[u8], s: Sections, line: &[u8], out: &mut [u8]) -> usize
     requires { ⌜ JobPasses (now g) (now line) s × (475200 ≤ length (now out)) ⌝ }
-    ensures { λ r. ⌜ Stored (now (out .entry)) 0 (roundsLine (grammarGiven (now (g .entry))) (now (line .entry)) ++ factLines (grammarGiven (now (g .entry))) (now (line .entry))) (now (out .exit)) r ⌝ }
+    ensures { λ r. ⌜
+        Stored (now (out .entry)) 0
+        (roundsLine (grammarGiven (now (g .entry))) (now (line .entry))
+        ++ factLines (grammarGiven (now (g .entry))) (now (line .entry)))
+        (now (out .exit)) r
+        ⌝ }
 {
     let mut words = [0; 512];
     let mut depths = [0; 16384];
@@ -61,7 +66,11 @@ pub fn write_marked(g: &[u8], line: &[u8], out: &mut [u8]) -> usize
 // Writes a question's line, and its nodes or the refusal.
 pub fn write_tree(g: &[u8], line: &[u8], category: u8, start: u8, end: u8, out: &mut [u8]) -> usize
     requires { ⌜ 475200 ≤ length (now out) ⌝ }
-    ensures { λ r. ⌜ Stored (now (out .entry)) 0 (treeLines (now (g .entry)) (now (line .entry)) (record { category = category; start = start; end = end })) (now (out .exit)) r ⌝ }
+    ensures { λ r. ⌜
+        Stored (now (out .entry)) 0
+        (treeLines (now (g .entry)) (now (line .entry)) (record { category = category; start = start; end = end }))
+        (now (out .exit)) r
+        ⌝ }
 {
     let mut words = [0; 512];
     let mut depths = [0; 16384];

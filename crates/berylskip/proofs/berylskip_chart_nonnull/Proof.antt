@@ -6,53 +6,25 @@ use Rattle.berylskip.proofs.Handing.{hands-values, hands-refusal}
 use Rattle.berylskip.proofs.berylskip_chart_nonnull.Statement.{statement}
 use Rattle.berylskip.proofs.berylskip_chart_nonnull.Tie as tie
 
-chart-requires : tie.Need-chart-requires
-chart-requires c κs = search needs
-
-enum-known-refusal : tie.Need-enum-known-refusal
-enum-known-refusal c = search needs
-
-refuse-requires : tie.Need-refuse-requires
-refuse-requires c κs = search needs
-
-enum-known-r : tie.Need-enum-known-r
-enum-known-r c = search needs
-
-same-length : tie.Need-same-length
-same-length c = search needs
-
-same-length-2 : tie.Need-same-length-2
-same-length-2 c = search needs
+-- the question is answered, from where the lengths are known again
+abbrev asked : tie.After-slice-known4 → tie.After-chart
+asked c = c .before .before .before .before
 
 returns : tie.Need-returns
 returns c =
     let matched = c .before .before .before in
-    let asked = matched .before .before .before .before .before .before in
-    hands-refusal _ (asked .chart .ensures) (matched .refusal .given .0 .0) (ap chartTold (matched .refusal .given .1)) (c .refuse .ensures)
-
-same-length-3 : tie.Need-same-length-3
-same-length-3 c = search needs
-
-same-length-4 : tie.Need-same-length-4
-same-length-4 c = search needs
+    hands-refusal _ (asked (matched .before .before) .chart .ensures) (matched .refusal .given .0 .0) (ap chartTold (matched .refusal .given .1)) (c .refuse .ensures)
 
 returns-2 : tie.Need-returns-2
 returns-2 c =
     let matched = c .before in
-    let asked = matched .before .before .before .before .before .before in
-    hands-values _ (asked .chart .ensures) _ (ap chartTold (matched .r .given .1))
+    hands-values _ (asked (matched .before .before) .chart .ensures) _ (ap chartTold (matched .r .given .1))
 
 pub berylskip-chart-nonnull-spec : {M : Type 1} → statement M
 berylskip-chart-nonnull-spec =
     tie.close
     (tie.spec
-    chart-requires
-    enum-known-refusal
-    refuse-requires
-    enum-known-r
-    same-length
-    same-length-2
+    (search needs) (search needs) (search needs) (search needs) (search needs) (search needs)
     returns
-    same-length-3
-    same-length-4
+    (search needs) (search needs)
     returns-2)

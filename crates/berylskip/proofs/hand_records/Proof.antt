@@ -8,15 +8,6 @@ use Rattle.berylskip.proofs.Handing.{values-handed, refusal-handed}
 use Rattle.berylskip.proofs.hand_records.Statement.{statement}
 use Rattle.berylskip.proofs.hand_records.Tie as tie
 
-enum-known-answer : tie.Need-enum-known-answer
-enum-known-answer c = search needs
-
-refuse-requires : tie.Need-refuse-requires
-refuse-requires c κs = search needs
-
-enum-known-answer-2 : tie.Need-enum-known-answer-2
-enum-known-answer-2 c = search needs
-
 returns : tie.Need-returns
 returns c =
     let matched = c .before .before .before in
@@ -29,4 +20,4 @@ returns-2 c =
     values-handed (now (a .records) ∷ []) (now (a .place)) _ (ap forestTold (c .before .answer2 .given .1))
 
 pub hand-records-spec : {M : Type 1} → statement M
-hand-records-spec = tie.close (tie.spec enum-known-answer refuse-requires enum-known-answer-2 returns returns-2)
+hand-records-spec = tie.close (tie.spec (search needs) (search needs) (search needs) returns returns-2)

@@ -17,70 +17,52 @@ use Rattle.chart.proofs.OutcomeLaws.{chart-turned, chart-filled}
 use Rattle.chart.proofs.chart.Statement.{statement}
 use Rattle.chart.proofs.chart.Tie as tie
 
--- the function's entry, from where the checks have passed
-abbrev origin : tie.After-s → tie.Start
-origin c = c .before .before .before .before .before .before .before
+-- the function's entry
+abbrev origin : tie.After-checked → tie.Start
+origin c = c .before .before .before .before .before
 
-passes : (c : tie.After-s) → let a = origin c .args in Passes (now (a .g)) (now (a .line)) Nothing (length (now (a .words))) (length (now (a .depths))) (c .s .given .0 .0)
+passes : (c : tie.After-s) → let a = origin (c .before .before) .args in Passes (now (a .g)) (now (a .line)) Nothing (length (now (a .words))) (length (now (a .depths))) (c .s .given .0 .0)
 passes c = checked-accepted _ _ _ _ _ _ (sym (c .before .before .checked .ensures) ∙ c .s .given .1)
 
 -- the chart is small
-small : (c : tie.After-s) → chartSize (c .s .given .0 .0 .categories) (length (now (origin c .args .line))) ≤ 2048
+small : (c : tie.After-s) → chartSize (c .s .given .0 .0 .categories) (length (now (origin (c .before .before) .args .line))) ≤ 2048
 small c = let p = passes c in chart-small _ _ (categories-few p) (line-is p .short)
 
--- the checks have passed, from where the facts are to be counted
-abbrev asked : tie.After-struct-known → tie.After-s
-asked c = c .before .before .before .before .before .before .before .before .before .before
+-- the memory is filled, from where its lengths are known
+abbrev filled : tie.After-slice-known4 → tie.After-fill
+filled c = c .before .before .before .before
 
-checked-requires : tie.Need-checked-requires
-checked-requires c κs = search needs
-
-enum-known-refusal : tie.Need-enum-known-refusal
-enum-known-refusal c = search needs
+-- the checks have passed, from where the memory is filled
+abbrev asked : tie.After-fill → tie.After-s
+asked c = c .before .before .before .before
 
 returns : tie.Need-returns
 returns c =
-    let a = c .before .before .before .before .before .before .before .before .args in
-    chart-turned _ _ _ _ _ (checked-refused (readOf (now (a .g))) (grammarGiven (now (a .g))) (now (a .line)) Nothing (now (a .words)) (now (a .depths)) Passed Passed _ (sym (c .before .before .before .checked .ensures) ∙ c .before .refusal .given .1))
-
-enum-known-s : tie.Need-enum-known-s
-enum-known-s c = search needs
+    let checks = c .before .before .before in
+    let a = origin checks .args in
+    chart-turned _ _ _ _ _ (checked-refused (readOf (now (a .g))) (grammarGiven (now (a .g))) (now (a .line)) Nothing (now (a .words)) (now (a .depths)) Passed Passed _ (sym (checks .checked .ensures) ∙ c .before .refusal .given .1))
 
 fill-requires : tie.Need-fill-requires
 fill-requires c κs = let p = passes (c .before .before .before) in (sections p, line-is p, memory-is p .0, memory-is p .1)
 
-add-count-ends : tie.Need-add-count-ends
-add-count-ends c = search needs
-
-mul-count-ends : tie.Need-mul-count-ends
-mul-count-ends c = omega (arith, small (asked c))
-
 count-ends-requires : tie.Need-count-ends-requires
 count-ends-requires c κs =
-    let filled = c .before .before .before .before .before .before .fill .ensures in
-    (le-trans (memory-is (passes (asked c)) .0) (le-of-eq (sym (filled .work .words-long))), small (asked c))
-
-same-length : tie.Need-same-length
-same-length c = search needs
-
-same-length-2 : tie.Need-same-length-2
-same-length-2 c = search needs
+    let f = filled (c .before .before) in
+    (le-trans (memory-is (passes (asked f)) .0) (le-of-eq (sym (f .fill .ensures .work .words-long))), small (asked f))
 
 returns-2 : tie.Need-returns-2
-returns-2 c = let filled = c .before .before .before .before .before .before .before .fill .ensures in chart-filled _ _ _ _ _ _ _ _ _ (passes (asked (c .before))) filled (c .count-ends .ensures)
+returns-2 c = let f = filled (c .before .before .before) in chart-filled _ _ _ _ _ _ _ _ _ (passes (asked f)) (f .fill .ensures) (c .count-ends .ensures)
 
 pub chart-spec : {M : Type 1} → statement M
 chart-spec =
     tie.close
     (tie.spec
-    checked-requires
-    enum-known-refusal
+    (search needs) (search needs)
     returns
-    enum-known-s
+    (search needs)
     fill-requires
-    add-count-ends
-    mul-count-ends
+    (search needs)
+    (λ c. omega (arith, small (asked (filled (c .before .before)))))
     count-ends-requires
-    same-length
-    same-length-2
+    (search needs) (search needs)
     returns-2)

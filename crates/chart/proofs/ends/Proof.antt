@@ -18,101 +18,69 @@ use Rattle.chart.proofs.OutcomeLaws.{ends-turned, ends-found}
 use Rattle.chart.proofs.ends.Statement.{statement}
 use Rattle.chart.proofs.ends.Tie as tie
 
--- the function's entry, from where the checks have passed
-abbrev origin : tie.After-s → tie.Start
-origin c = c .before .before .before .before .before .before .before
+-- the function's entry
+abbrev origin : tie.After-checked → tie.Start
+origin c = c .before .before .before .before .before
 
-passes : (c : tie.After-s) → let a = origin c .args in Passes (now (a .g)) (now (a .line)) (Start (a .category) (a .start)) (length (now (a .words))) (length (now (a .depths))) (c .s .given .0 .0)
+passes : (c : tie.After-s) → let a = origin (c .before .before) .args in Passes (now (a .g)) (now (a .line)) (Start (a .category) (a .start)) (length (now (a .words))) (length (now (a .depths))) (c .s .given .0 .0)
 passes c = checked-accepted _ _ _ _ _ _ (sym (c .before .before .checked .ensures) ∙ c .s .given .1)
 
 -- the category is the grammar's, and the start is on the line
-inside : (c : tie.After-s) → let a = origin c .args in (a .category < c .s .given .0 .0 .categories) × (a .start ≤ length (now (a .line)))
+inside : (c : tie.After-s) → let a = origin (c .before .before) .args in (a .category < c .s .given .0 .0 .categories) × (a .start ≤ length (now (a .line)))
 inside c = start-passed _ _ _ _ (asked-is (passes c))
 
 -- the word that is read is one of the chart's
 in-chart : (c : tie.After-s) →
-    let a = origin c .args in
+    let a = origin (c .before .before) .args in
     a .category * (length (now (a .line)) + 1) + a .start < chartSize (c .s .given .0 .0 .categories) (length (now (a .line)))
 in-chart c = let i = inside c in row-inside _ _ _ _ (i .0) (omega (arith, i .1))
 
-small : (c : tie.After-s) → let a = origin c .args in a .category * (length (now (a .line)) + 1) + a .start < 2048
+small : (c : tie.After-s) → let a = origin (c .before .before) .args in a .category * (length (now (a .line)) + 1) + a .start < 2048
 small c = let p = passes c in lt-of-lt-of-le (in-chart c) (chart-small _ _ (categories-few p) (line-is p .short))
 
--- the checks have passed, from where the row is to be read
-abbrev asked : tie.After-slice-known4 → tie.After-s
-asked c = c .before .before .before .before .before .before .before .before
+-- the memory is filled, from where its lengths are known
+abbrev filled : tie.After-slice-known4 → tie.After-fill
+filled c = c .before .before .before .before
 
-checked-requires : tie.Need-checked-requires
-checked-requires c κs = search needs
-
-enum-known-refusal : tie.Need-enum-known-refusal
-enum-known-refusal c = search needs
+-- the checks have passed, from where the memory is filled
+abbrev asked : tie.After-fill → tie.After-s
+asked c = c .before .before .before .before
 
 returns : tie.Need-returns
 returns c =
-    let a = c .before .before .before .before .before .before .before .before .args in
+    let checks = c .before .before .before in
+    let a = origin checks .args in
     let asked = Start (a .category) (a .start) in
-    ends-turned _ _ _ _ _ _ _ (checked-refused (readOf (now (a .g))) (grammarGiven (now (a .g))) (now (a .line)) asked (now (a .words)) (now (a .depths)) Passed Passed _ (sym (c .before .before .before .checked .ensures) ∙ c .before .refusal .given .1))
-
-enum-known-s : tie.Need-enum-known-s
-enum-known-s c = search needs
+    ends-turned _ _ _ _ _ _ _ (checked-refused (readOf (now (a .g))) (grammarGiven (now (a .g))) (now (a .line)) asked (now (a .words)) (now (a .depths)) Passed Passed _ (sym (checks .checked .ensures) ∙ c .before .refusal .given .1))
 
 fill-requires : tie.Need-fill-requires
 fill-requires c κs = let p = passes (c .before .before .before) in (sections p, line-is p, memory-is p .0, memory-is p .1)
 
-add-row : tie.Need-add-row
-add-row c = search needs
-
-mul-row : tie.Need-mul-row
-mul-row c = omega (arith, small (asked c))
-
-add-row-2 : tie.Need-add-row-2
-add-row-2 c = omega (arith, small (asked c))
-
-mul-row-2 : tie.Need-mul-row-2
-mul-row-2 c = omega (arith, small (asked c))
-
 slice-read-row : tie.Need-slice-read-row
 slice-read-row c =
-    let s = asked (c .before) in
-    let filled = c .before .before .before .before .before .fill .ensures in
-    omega (arith, in-chart s, memory-is (passes s) .0, filled .work .words-long)
-
-count-requires : tie.Need-count-requires
-count-requires c κs = search needs
-
-first-requires : tie.Need-first-requires
-first-requires c κs = search needs
-
-same-length : tie.Need-same-length
-same-length c = search needs
-
-same-length-2 : tie.Need-same-length-2
-same-length-2 c = search needs
+    let f = filled (c .before) in
+    let s = asked f in
+    omega (arith, in-chart s, memory-is (passes s) .0, f .fill .ensures .work .words-long)
 
 returns-2 : tie.Need-returns-2
 returns-2 c =
-    let s = c .before .before .before .before .before .before .before .before .before .before .before in
+    let f = filled (c .before .before .before) in
+    let s = asked f in
     let i = inside s in
-    let filled = c .before .before .before .before .before .before .before .fill .ensures in
-    rw (c .before .count .ensures) (ends-found _ _ _ _ _ _ _ _ _ _ (passes s) (i .0) (i .1) (filled .work) (c .first .ensures))
+    rw (c .before .count .ensures) (ends-found _ _ _ _ _ _ _ _ _ _ (passes s) (i .0) (i .1) (f .fill .ensures .work) (c .first .ensures))
 
 pub ends-spec : {M : Type 1} → statement M
 ends-spec =
     tie.close
     (tie.spec
-    checked-requires
-    enum-known-refusal
+    (search needs) (search needs)
     returns
-    enum-known-s
+    (search needs)
     fill-requires
-    add-row
-    mul-row
-    add-row-2
-    mul-row-2
+    (search needs)
+    (λ c. omega (arith, small (asked (filled c))))
+    (λ c. omega (arith, small (asked (filled c))))
+    (λ c. omega (arith, small (asked (filled c))))
     slice-read-row
-    count-requires
-    first-requires
-    same-length
-    same-length-2
+    (search needs) (search needs) (search needs) (search needs)
     returns-2)

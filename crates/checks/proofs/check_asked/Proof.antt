@@ -5,24 +5,6 @@ use Rattle.checks.specs.Question.{askedCheck}
 use Rattle.checks.proofs.check_asked.Statement.{statement}
 use Rattle.checks.proofs.check_asked.Tie as tie
 
-enum-told : tie.Need-enum-told
-enum-told c = search needs
-
-enum-known-asked : tie.Need-enum-known-asked
-enum-known-asked c = search needs
-
-check-start-requires : tie.Need-check-start-requires
-check-start-requires c κs = search needs
-
-enum-known-asked-2 : tie.Need-enum-known-asked-2
-enum-known-asked-2 c = search needs
-
-check-span-requires : tie.Need-check-span-requires
-check-span-requires c κs = search needs
-
-returns : tie.Need-returns
-returns c = search needs
-
 returns-2 : tie.Need-returns-2
 returns-2 c = c .check-start .ensures ∙ sym (ap (askedCheck _ _) (c .before .before .asked .given .1))
 
@@ -33,11 +15,7 @@ pub check-asked-spec : {M : Type 1} → statement M
 check-asked-spec =
     tie.close
     (tie.spec
-    enum-told
-    enum-known-asked
-    check-start-requires
-    enum-known-asked-2
-    check-span-requires
-    returns
+    (search needs) (search needs) (search needs) (search needs) (search needs)
+    (λ c. search needs)
     returns-2
     returns-3)

@@ -7,12 +7,6 @@ use Rattle.checks.proofs.Laws.{chart-small, too-small, large-enough}
 use Rattle.checks.proofs.check_chart.Statement.{statement}
 use Rattle.checks.proofs.check_chart.Tie as tie
 
-add-if1 : tie.Need-add-if1
-add-if1 c = search needs
-
-mul-if1 : tie.Need-mul-if1
-mul-if1 c = omega (arith, chart-small _ _ (c .pre .0) (c .pre .1))
-
 returns : tie.Need-returns
 returns c = let a = c .before .args in sym (too-small (chartSize (a .categories) (a .n)) _ _ (c .if1 .taken))
 
@@ -20,4 +14,6 @@ returns-2 : tie.Need-returns-2
 returns-2 c = let a = c .before .args in sym (large-enough (chartSize (a .categories) (a .n)) _ _ (c .if1 .left))
 
 pub check-chart-spec : {M : Type 1} → statement M
-check-chart-spec = tie.close (tie.spec add-if1 mul-if1 returns returns-2)
+check-chart-spec =
+    tie.close
+    (tie.spec (search needs) (λ c. omega (arith, chart-small _ _ (c .pre .0) (c .pre .1))) returns returns-2)

@@ -7,18 +7,6 @@ use Rattle.checks.proofs.Laws.{chart-small, depths-small, too-small, la
 use Rattle.checks.proofs.check_depths.Statement.{statement}
 use Rattle.checks.proofs.check_depths.Tie as tie
 
-add-if1 : tie.Need-add-if1
-add-if1 c = search needs
-
-mul-if1 : tie.Need-mul-if1
-mul-if1 c = omega (arith, chart-small _ _ (c .pre .0) (c .pre .1))
-
-add-if1-2 : tie.Need-add-if1-2
-add-if1-2 c = search needs
-
-mul-if1-2 : tie.Need-mul-if1-2
-mul-if1-2 c = omega (arith, depths-small _ _ (c .pre .0) (c .pre .1))
-
 returns : tie.Need-returns
 returns c = let a = c .before .args in sym (too-small (depthsSize (a .categories) (a .n)) _ _ (c .if1 .taken))
 
@@ -26,4 +14,12 @@ returns-2 : tie.Need-returns-2
 returns-2 c = let a = c .before .args in sym (large-enough (depthsSize (a .categories) (a .n)) _ _ (c .if1 .left))
 
 pub check-depths-spec : {M : Type 1} → statement M
-check-depths-spec = tie.close (tie.spec add-if1 mul-if1 add-if1-2 mul-if1-2 returns returns-2)
+check-depths-spec =
+    tie.close
+    (tie.spec
+    (search needs)
+    (λ c. omega (arith, chart-small _ _ (c .pre .0) (c .pre .1)))
+    (search needs)
+    (λ c. omega (arith, depths-small _ _ (c .pre .0) (c .pre .1)))
+    returns
+    returns-2)

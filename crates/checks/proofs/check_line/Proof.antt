@@ -21,22 +21,10 @@ returns c = sym (line-long _ _ (c .if1 .taken))
 loop-holds : tie.Need-loop-holds Inv-loop μ-loop
 loop-holds c = (omega arith, sym (line-short _ _ (c .if1 .left)))
 
-shared-slice-read-if2 : tie.Need-shared-slice-read-if2 Inv-loop μ-loop
-shared-slice-read-if2 c = search needs
-
-cast-if2 : tie.Need-cast-if2 Inv-loop μ-loop
-cast-if2 c = omega (arith, c .shared-slice-known .given (c .before .before .loop .token))
-
 returns-2 : tie.Need-returns-2 Inv-loop μ-loop
 returns-2 c =
     let l = c .before .before .before .loop in
     sym (tokens-bad _ _ (l .token) (c .before .before .loop-test .taken) (c .if2 .taken)) ∙ l .inv .1
-
-add-token : tie.Need-add-token Inv-loop μ-loop
-add-token c = search needs
-
-loop-less : tie.Need-loop-less Inv-loop μ-loop
-loop-less c = search needs
 
 loop-again : tie.Need-loop-again Inv-loop μ-loop
 loop-again c =
@@ -54,10 +42,9 @@ check-line-spec =
     μ-loop
     returns
     loop-holds
-    shared-slice-read-if2
-    cast-if2
+    (search needs)
+    (λ c. omega (arith, c .shared-slice-known .given (c .before .before .loop .token)))
     returns-2
-    add-token
-    loop-less
+    (search needs) (search needs)
     loop-again
     returns-3)

@@ -5,26 +5,8 @@ use Rattle.checks.proofs.Laws.{line-passed}
 use Rattle.checks.proofs.check_rest.Statement.{statement}
 use Rattle.checks.proofs.check_rest.Tie as tie
 
-check-line-requires : tie.Need-check-line-requires
-check-line-requires c κs = search needs
-
-enum-known-refusal : tie.Need-enum-known-refusal
-enum-known-refusal c = search needs
-
 returns : tie.Need-returns
 returns c = simp (sym (c .before .before .before .check-line .ensures) ∙ c .before .refusal .given .1)
-
-enum-told : tie.Need-enum-told
-enum-told c = search needs
-
-check-asked-requires : tie.Need-check-asked-requires
-check-asked-requires c κs = search needs
-
-enum-known-refusal-2 : tie.Need-enum-known-refusal-2
-enum-known-refusal-2 c = search needs
-
-enum-told-2 : tie.Need-enum-told-2
-enum-told-2 c = search needs
 
 check-work-requires : tie.Need-check-work-requires
 check-work-requires c κs =
@@ -47,13 +29,9 @@ pub check-rest-spec : {M : Type 1} → statement M
 check-rest-spec =
     tie.close
     (tie.spec
-    check-line-requires
-    enum-known-refusal
+    (search needs) (search needs)
     returns
-    enum-told
-    check-asked-requires
-    enum-known-refusal-2
-    enum-told-2
+    (search needs) (search needs) (search needs) (search needs)
     check-work-requires
     returns-2
     returns-3)

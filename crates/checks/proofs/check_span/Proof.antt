@@ -6,18 +6,9 @@ use Rattle.checks.specs.Question.{spanCheck}
 use Rattle.checks.proofs.check_span.Statement.{statement}
 use Rattle.checks.proofs.check_span.Tie as tie
 
-check-start-requires : tie.Need-check-start-requires
-check-start-requires c κs = search needs
-
-enum-known-refusal : tie.Need-enum-known-refusal
-enum-known-refusal c = search needs
-
 returns : tie.Need-returns
 unfolding spanCheck
 returns c = simp (sym (c .before .before .before .check-start .ensures) ∙ c .before .refusal .given .1)
-
-enum-told : tie.Need-enum-told
-enum-told c = search needs
 
 returns-2 : tie.Need-returns-2
 unfolding spanCheck
@@ -37,12 +28,4 @@ returns-4 c =
 
 pub check-span-spec : {M : Type 1} → statement M
 check-span-spec =
-    tie.close
-    (tie.spec
-    check-start-requires
-    enum-known-refusal
-    returns
-    enum-told
-    returns-2
-    returns-3
-    returns-4)
+    tie.close (tie.spec (search needs) (search needs) returns (search needs) returns-2 returns-3 returns-4)

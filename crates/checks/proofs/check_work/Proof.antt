@@ -4,18 +4,6 @@ use mathlib.Core.Path.{sym, _∙_}
 use Rattle.checks.proofs.check_work.Statement.{statement}
 use Rattle.checks.proofs.check_work.Tie as tie
 
-check-chart-requires : tie.Need-check-chart-requires
-check-chart-requires c κs = search needs
-
-enum-known-refusal : tie.Need-enum-known-refusal
-enum-known-refusal c = search needs
-
-enum-told : tie.Need-enum-told
-enum-told c = search needs
-
-check-depths-requires : tie.Need-check-depths-requires
-check-depths-requires c κs = search needs
-
 returns : tie.Need-returns
 returns c = simp (sym (c .before .before .before .check-chart .ensures) ∙ c .before .refusal .given .1)
 
@@ -24,11 +12,4 @@ returns-2 c = simp (sym (c .before .before .before .check-chart .ensures) ∙ c 
 
 pub check-work-spec : {M : Type 1} → statement M
 check-work-spec =
-    tie.close
-    (tie.spec
-    check-chart-requires
-    enum-known-refusal
-    enum-told
-    check-depths-requires
-    returns
-    returns-2)
+    tie.close (tie.spec (search needs) (search needs) (search needs) (search needs) returns returns-2)

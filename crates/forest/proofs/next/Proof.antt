@@ -29,20 +29,8 @@ module _ {g line words : List ℕ} {c : Cursor} (s : Charted g line words × Sto
   middle-inside : c .branch .middle ≤ length line
   middle-inside = children-inside (s .1 .middles (c .branch .middle) .0 (s .1 .middle)) .ends
 
-cast-rule : tie.Need-cast-rule
-cast-rule c = let s = entry c .pre in omega (arith, s .1 .rule .below, rules-few _ _ _ (s .0))
-
-cast-d : tie.Need-cast-d
-cast-d c = let s = entry (c .before) .pre in omega (arith, s .1 .last, long s)
-
-sub-d : tie.Need-sub-d
-sub-d c = entry (c .before) .pre .1 .first
-
 cast-start : tie.Need-cast-start
 cast-start c = let s = entry (c .before .before) .pre in omega (arith, s .1 .start, s .0 .isLine .short)
-
-cast-middle : tie.Need-cast-middle
-cast-middle c = let s = asked c .pre in omega (arith, middle-inside s, s .0 .isLine .short)
 
 stand-requires : tie.Need-stand-requires
 stand-requires c κs =
@@ -79,12 +67,6 @@ seek-record-requires c κs =
     let s = asked (c .before .before .before) .pre in
     (s .0, omega (arith, s .1 .rule .below), s .1 .rule .found .place, omega (arith, s .1 .first, s .1 .last, long s), omega (arith, s .1 .start))
 
-enum-known-r : tie.Need-enum-known-r
-enum-known-r c = search needs
-
-enum-told : tie.Need-enum-told
-enum-told c = search needs
-
 returns-3 : tie.Need-returns-3
 returns-3 c =
     let k = c .before .before .before in
@@ -103,11 +85,11 @@ pub next-spec : {M : Type 1} → statement M
 next-spec =
     tie.close
     (tie.spec
-    cast-rule
-    cast-d
-    sub-d
+    (λ c. let s = entry c .pre in omega (arith, s .1 .rule .below, rules-few _ _ _ (s .0)))
+    (λ c. let s = entry (c .before) .pre in omega (arith, s .1 .last, long s))
+    (λ c. entry (c .before) .pre .1 .first)
     cast-start
-    cast-middle
+    (λ c. let s = asked c .pre in omega (arith, middle-inside s, s .0 .isLine .short))
     stand-requires
     returns
     add-seek-middle
@@ -116,7 +98,6 @@ next-spec =
     returns-2
     add-seek-record
     seek-record-requires
-    enum-known-r
-    enum-told
+    (search needs) (search needs)
     returns-3
     returns-4)

@@ -14,113 +14,79 @@ use Rattle.forest.proofs.PlanLaws.{plan-turned, sections-are, charted, 
 use Rattle.forest.proofs.prepare.Statement.{statement}
 use Rattle.forest.proofs.prepare.Tie as tie
 
--- the function's entry, from where the checks have passed
-abbrev origin : tie.After-s → tie.Start
-origin c = c .before .before .before .before .before .before .before
+-- the function's entry
+abbrev origin : tie.After-checked → tie.Start
+origin c = c .before .before .before .before .before
 
-passes : (c : tie.After-s) → let a = origin c .args in Passes (now (a .g)) (now (a .line)) Nothing (length (now (a .words))) (length (now (a .depths))) (c .s .given .0 .0)
+passes : (c : tie.After-s) → let a = origin (c .before .before) .args in Passes (now (a .g)) (now (a .line)) Nothing (length (now (a .words))) (length (now (a .depths))) (c .s .given .0 .0)
 passes c = checked-accepted _ _ _ _ _ _ (sym (c .before .before .checked .ensures) ∙ c .s .given .1)
+
+-- the memory is filled, from where the records are to be counted
+abbrev filled : tie.After-count-records-arg → tie.After-fill
+filled c = c .before .before .before .before .before
 
 -- the checks have passed, from where the memory is filled; and the room then lent
 abbrev asked : tie.After-fill → tie.After-s
 asked c = c .before .before .before .before
 
 abbrev room : tie.After-fill → ℕ
-room c = origin (asked c) .args .room
-
-checked-requires : tie.Need-checked-requires
-checked-requires c κs = search needs
-
-enum-known-refusal : tie.Need-enum-known-refusal
-enum-known-refusal c = search needs
+room c = origin (asked c .before .before) .args .room
 
 returns : tie.Need-returns
 returns c =
-    let a = c .before .before .before .before .before .before .before .before .args in
-    plan-turned _ _ _ _ _ _ _ (checked-refused (readOf (now (a .g))) (grammarGiven (now (a .g))) (now (a .line)) Nothing (now (a .words)) (now (a .depths)) Passed Passed _ (sym (c .before .before .before .checked .ensures) ∙ c .before .refusal .given .1))
-
-enum-known-s : tie.Need-enum-known-s
-enum-known-s c = search needs
+    let checks = c .before .before .before in
+    let a = origin checks .args in
+    plan-turned _ _ _ _ _ _ _ (checked-refused (readOf (now (a .g))) (grammarGiven (now (a .g))) (now (a .line)) Nothing (now (a .words)) (now (a .depths)) Passed Passed _ (sym (checks .checked .ensures) ∙ c .before .refusal .given .1))
 
 fill-requires : tie.Need-fill-requires
 fill-requires c κs = let p = passes (c .before .before .before) in (sections p, line-is p, memory-is p .0, memory-is p .1)
 
 count-records-requires : tie.Need-count-records-requires
 count-records-requires c κs =
-    let f = c .before .before .before .before .before in
+    let f = filled c in
     let p = passes (asked f) in
     let work = f .fill .ensures .work in
     (charted _ _ _ _ (room f) _ p _ _ work, sections-are _ _ _ _ (room f) _ p _ _ work)
 
-same-length : tie.Need-same-length
-same-length c = search needs
-
-same-length-2 : tie.Need-same-length-2
-same-length-2 c = search needs
-
 returns-2 : tie.Need-returns-2
 returns-2 c =
-    let f = c .before .before .before .before .before .before .before in
+    let f = filled (c .before .before) in
     plan-refused _ _ _ _ (room f) _ (passes (asked f)) _ _ (f .fill .ensures .work) _ (c .before .count-records .ensures) _ (c .if1 .taken)
 
 seek-record-requires : tie.Need-seek-record-requires
 seek-record-requires c κs =
-    let f = c .before .before .before .before .before .before .before .before in
+    let f = filled (c .before .before .before) in
     let p = passes (asked f) in
     let work = f .fill .ensures .work in
     (charted _ _ _ _ (room f) _ p _ _ work, omega arith, first-stands _ _ _ _ (room f) _ p _ _ work, omega arith, omega arith)
-
-enum-known-first : tie.Need-enum-known-first
-enum-known-first c = search needs
-
-enum-told : tie.Need-enum-told
-enum-told c = search needs
-
-same-length-3 : tie.Need-same-length-3
-same-length-3 c = search needs
-
-same-length-4 : tie.Need-same-length-4
-same-length-4 c = search needs
 
 returns-3 : tie.Need-returns-3
 returns-3 c =
     let k = c .before .before .before in
     let i = k .before .before in
-    let f = i .before .before .before .before .before .before .before in
+    let f = filled (i .before .before) in
     plan-found _ _ _ _ (room f) _ (passes (asked f)) _ _ (f .fill .ensures .work) _ (i .before .count-records .ensures) _ (i .if1 .left) (rw (c .before .first .given .1) at (k .seek-record .ensures))
-
-same-length-5 : tie.Need-same-length-5
-same-length-5 c = search needs
-
-same-length-6 : tie.Need-same-length-6
-same-length-6 c = search needs
 
 returns-4 : tie.Need-returns-4
 returns-4 c =
     let k = c .before .before in
     let i = k .before .before in
-    let f = i .before .before .before .before .before .before .before in
+    let f = filled (i .before .before) in
     plan-empty _ _ _ _ (room f) _ (passes (asked f)) _ _ (f .fill .ensures .work) _ (i .before .count-records .ensures) _ (i .if1 .left) (rw (c .enum-told .given .1) at (k .seek-record .ensures))
 
 pub prepare-spec : {M : Type 1} → statement M
 prepare-spec =
     tie.close
     (tie.spec
-    checked-requires
-    enum-known-refusal
+    (search needs) (search needs)
     returns
-    enum-known-s
+    (search needs)
     fill-requires
     count-records-requires
-    same-length
-    same-length-2
+    (search needs) (search needs)
     returns-2
     seek-record-requires
-    enum-known-first
-    enum-told
-    same-length-3
-    same-length-4
+    (search needs) (search needs) (search needs) (search needs)
     returns-3
-    same-length-5
-    same-length-6
+    (search needs) (search needs)
     returns-4)

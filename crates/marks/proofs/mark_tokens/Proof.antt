@@ -49,9 +49,6 @@ mark c =
     (λ p. rw (p .3) (mark-flag t _ (spans (c .before)) _ (c .before .before .loop-test .taken) (p .0 .left) (p .2 .ensures .0) (p .2 .ensures .1)))
     (c .if1 .came)
 
-add-width : tie.Need-add-width Inv-loop μ-loop
-add-width c = search needs
-
 loop-holds : tie.Need-loop-holds Inv-loop μ-loop
 loop-holds c = (search needs, spans-none, marked-none)
 
@@ -59,38 +56,21 @@ reach-from-requires : tie.Need-reach-from-requires Inv-loop μ-loop
 reach-from-requires c κs =
     let p = entry c .pre in (p .0, rw (category-count _ _ (p .0)) at (p .2 .room), omega arith, omega (arith, p .1 .short))
 
-shared-slice-read-class-flag : tie.Need-shared-slice-read-class-flag Inv-loop μ-loop
-shared-slice-read-class-flag c = search needs
-
 cast-class-flag : tie.Need-cast-class-flag Inv-loop μ-loop
 cast-class-flag c = omega (arith, class-below (c .before .before .before), whole _ _ (entry (c .before .before .before) .pre .0) .classes-high)
 
 class-flag-requires : tie.Need-class-flag-requires Inv-loop μ-loop
 class-flag-requires c κs = (entry (c .before .before .before) .pre .0, class-below (c .before .before .before))
 
-slice-write-marks : tie.Need-slice-write-marks Inv-loop μ-loop
-slice-write-marks c = search needs
-
-add-secret : tie.Need-add-secret Inv-loop μ-loop
-add-secret c = search needs
-
-add-token : tie.Need-add-token Inv-loop μ-loop
-add-token c = search needs
-
-loop-less : tie.Need-loop-less Inv-loop μ-loop
-loop-less c = search needs
-
 loop-again : tie.Need-loop-again Inv-loop μ-loop
 loop-again c =
-    let l = c .before .before .before .before .loop in
-    let p = entry (c .before .before .before) .pre in (
+    let turn = c .before .before .before in
+    let l = turn .before .loop in
+    let p = entry turn .pre in (
       search needs,
       spans (c .before .before),
       marked-more (l .token) _ (l .secret) (l .marks) (omega (arith, l .inv .2 .long, p .3)) (mark (c .before)) (l .inv .2),
     )
-
-same-length : tie.Need-same-length Inv-loop μ-loop
-same-length c = search needs
 
 returns : tie.Need-returns Inv-loop μ-loop
 returns c = let l = c .before .loop in marked-all (l .token) _ _ (omega arith) (l .inv .2)
@@ -101,16 +81,13 @@ mark-tokens-spec =
     (tie.spec
     Inv-loop
     μ-loop
-    add-width
+    (search needs)
     loop-holds
     reach-from-requires
-    shared-slice-read-class-flag
+    (search needs)
     cast-class-flag
     class-flag-requires
-    slice-write-marks
-    add-secret
-    add-token
-    loop-less
+    (search needs) (search needs) (search needs) (search needs)
     loop-again
-    same-length
+    (search needs)
     returns)

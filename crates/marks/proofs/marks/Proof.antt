@@ -15,83 +15,61 @@ use Rattle.marks.proofs.OutcomeLaws.{marks-turned, marks-no-room, marks
 use Rattle.marks.proofs.marks.Statement.{statement}
 use Rattle.marks.proofs.marks.Tie as tie
 
--- the function's entry, from where the checks have passed
-abbrev origin : tie.After-s → tie.Start
-origin c = c .before .before .before .before .before .before .before .before
+-- the function's entry
+abbrev origin : tie.After-checked → tie.Start
+origin c = c .before .before .before .before .before .before
 
-passes : (c : tie.After-s) → let a = origin c .args in Passes (now (a .g)) (now (a .line)) Nothing (length (now (a .words))) (length (now (a .depths))) (c .s .given .0 .0)
+passes : (c : tie.After-s) → let a = origin (c .before .before) .args in Passes (now (a .g)) (now (a .line)) Nothing (length (now (a .words))) (length (now (a .depths))) (c .s .given .0 .0)
 passes c = checked-accepted _ _ _ _ _ _ (sym (c .before .before .checked .ensures) ∙ c .s .given .1)
 
 -- the checks have passed, from where the memory is filled
 abbrev asked : tie.After-fill → tie.After-s
 asked c = c .before .before .before .before
 
-checked-requires : tie.Need-checked-requires
-checked-requires c κs = search needs
-
-enum-known-refusal : tie.Need-enum-known-refusal
-enum-known-refusal c = search needs
+-- the memory is filled, from where the room for marks is known
+abbrev filled : tie.After-slice-known5 → tie.After-fill
+filled c = c .before .before .before .before
 
 returns : tie.Need-returns
 returns c =
-    let a = c .before .before .before .before .before .before .before .before .before .args in
+    let checks = c .before .before .before in
+    let a = origin checks .args in
     let room = marksRoom (now (a .line)) (now (a .marks)) in
-    marks-turned _ _ _ _ _ _ (checked-refused (readOf (now (a .g))) (grammarGiven (now (a .g))) (now (a .line)) Nothing (now (a .words)) (now (a .depths)) Passed room _ (sym (c .before .before .before .checked .ensures) ∙ c .before .refusal .given .1))
-
-enum-known-s : tie.Need-enum-known-s
-enum-known-s c = search needs
+    marks-turned _ _ _ _ _ _ (checked-refused (readOf (now (a .g))) (grammarGiven (now (a .g))) (now (a .line)) Nothing (now (a .words)) (now (a .depths)) Passed room _ (sym (checks .checked .ensures) ∙ c .before .refusal .given .1))
 
 fill-requires : tie.Need-fill-requires
 fill-requires c κs = let p = passes (c .before .before .before) in (sections p, line-is p, memory-is p .0, memory-is p .1)
 
-same-length : tie.Need-same-length
-same-length c = search needs
-
-same-length-2 : tie.Need-same-length-2
-same-length-2 c = search needs
-
 returns-2 : tie.Need-returns-2
 returns-2 c =
-    let filled = c .before .before .before .before .before in
-    marks-no-room _ _ _ _ _ _ (passes (asked filled)) _ _ (c .if1 .taken) (filled .fill .ensures .work)
+    let f = filled (c .before) in
+    marks-no-room _ _ _ _ _ _ (passes (asked f)) _ _ (c .if1 .taken) (f .fill .ensures .work)
 
 mark-tokens-requires : tie.Need-mark-tokens-requires
 mark-tokens-requires c κs =
-    let filled = c .before .before .before .before .before .before .before in
-    let p = passes (asked filled) in
-    let f = filled .fill .ensures .work in
-    let room = le-trans (memory-is p .0) (le-of-eq (sym (f .words-long))) in
-    (sections p, line-is p, record { room = rw (category-count _ _ (sections p)) room; word = f .word }, c .before .before .if1 .left)
-
-same-length-3 : tie.Need-same-length-3
-same-length-3 c = search needs
-
-same-length-4 : tie.Need-same-length-4
-same-length-4 c = search needs
-
-same-length-5 : tie.Need-same-length-5
-same-length-5 c = search needs
+    let f = filled (c .before .before .before) in
+    let p = passes (asked f) in
+    let w = f .fill .ensures .work in
+    let room = le-trans (memory-is p .0) (le-of-eq (sym (w .words-long))) in
+    (sections p, line-is p, record { room = rw (category-count _ _ (sections p)) room; word = w .word }, c .before .before .if1 .left)
 
 returns-3 : tie.Need-returns-3
 returns-3 c =
-    let room = c .before .before .before .before .before in
-    let filled = room .before .before .before .before .before in
-    marks-answered _ _ _ _ _ _ (passes (asked filled)) _ _ _ _ (room .if1 .left) (filled .fill .ensures .work) (c .before .before .mark-tokens .ensures)
+    let marked = c .before .before in
+    let room = marked .before .before .before in
+    let f = filled (room .before) in
+    marks-answered _ _ _ _ _ _ (passes (asked f)) _ _ _ _ (room .if1 .left) (f .fill .ensures .work) (marked .mark-tokens .ensures)
 
 pub marks-spec : {M : Type 1} → statement M
 marks-spec =
     tie.close
     (tie.spec
-    checked-requires
-    enum-known-refusal
+    (search needs) (search needs)
     returns
-    enum-known-s
+    (search needs)
     fill-requires
-    same-length
-    same-length-2
+    (search needs) (search needs)
     returns-2
     mark-tokens-requires
-    same-length-3
-    same-length-4
-    same-length-5
+    (search needs) (search needs) (search needs)
     returns-3)

@@ -22,57 +22,34 @@ abbrev μ-loop : tie.MeasureT-loop
 μ-loop g s words width start far categories reach₀ a₀ reach a = categories - a
 
 -- the function's entry
-abbrev entry : tie.In-loop Inv-loop μ-loop → tie.Start Inv-loop μ-loop
-entry c = c .before .before .before .before
+abbrev entry : tie.At-loop Inv-loop μ-loop → tie.Start Inv-loop μ-loop
+entry c = c .before .before .before
 
 -- the grammar that was read
 abbrev grammar : tie.Start Inv-loop μ-loop → Grammar
 grammar c = grammarOf (now (c .args .g)) (c .args .s)
 
 -- the row of category a is in the words
-inside : (c : tie.In-loop Inv-loop μ-loop) → c .before .loop .a * entry c .args .width + entry c .args .start < length (now (entry c .args .words))
+inside : (c : tie.In-loop Inv-loop μ-loop) → let a = entry (c .before) .args in c .before .loop .a * a .width + a .start < length (now (a .words))
 inside c =
-    let e = entry c in
+    let e = entry (c .before) in
     omega (arith, row-inside (c .before .loop .a) (e .args .s .categories) (e .args .width) (e .args .start) (c .loop-test .taken) (e .pre .2), e .pre .1)
 
 -- and is one of the first 2048
-few : (c : tie.In-loop Inv-loop μ-loop) → c .before .loop .a * entry c .args .width + entry c .args .start < 2048
+few : (c : tie.In-loop Inv-loop μ-loop) → let a = entry (c .before) .args in c .before .loop .a * a .width + a .start < 2048
 few c =
-    let e = entry c in
+    let e = entry (c .before) in
     let l : c .before .loop .a < 32 = omega (arith, c .loop-test .taken, whole _ _ (e .pre .0) .categories-high) in
     omega (arith, row-inside (c .before .loop .a) 32 (e .args .width) (e .args .start) l (e .pre .2), e .pre .3)
 
 loop-holds : tie.Need-loop-holds Inv-loop μ-loop
 loop-holds c = let e = c .before .before in (search needs, reach-none (grammar e) (now (e .args .words)) (e .args .width) (e .args .start) (e .args .far))
 
-category-flag-requires : tie.Need-category-flag-requires Inv-loop μ-loop
-category-flag-requires c κs = search needs
-
-mul-reach-of : tie.Need-mul-reach-of Inv-loop μ-loop
-mul-reach-of c = omega (arith, few (c .before .before))
-
-add-reach-of : tie.Need-add-reach-of Inv-loop μ-loop
-add-reach-of c = omega (arith, few (c .before .before))
-
-mul-reach-of-2 : tie.Need-mul-reach-of-2 Inv-loop μ-loop
-mul-reach-of-2 c = omega (arith, few (c .before .before))
-
-shared-slice-read-reach-of : tie.Need-shared-slice-read-reach-of Inv-loop μ-loop
-shared-slice-read-reach-of c = inside (c .before .before .before)
-
-reach-of-requires : tie.Need-reach-of-requires Inv-loop μ-loop
-reach-of-requires c κs = search needs
-
-add-a : tie.Need-add-a Inv-loop μ-loop
-add-a c = search needs
-
-loop-less : tie.Need-loop-less Inv-loop μ-loop
-loop-less c = search needs
-
 loop-again : tie.Need-loop-again Inv-loop μ-loop
 loop-again c =
-    let e = entry (c .before .before) in
-    let l = c .before .before .before .loop in
+    let turn = c .before .before .before in
+    let e = entry turn in
+    let l = turn .loop in
     let flag = c .before .category-flag .ensures .0 in (
       search needs,
       ⊎-elim
@@ -83,7 +60,7 @@ loop-again c =
 
 returns : tie.Need-returns Inv-loop μ-loop
 returns c =
-    let e = c .before .before .before .before in
+    let e = entry (c .before) in
     let full : c .before .loop .a ≡ length (grammar e .categories) = omega (arith, category-count _ _ (e .pre .0)) in
     rw full at (c .before .loop .inv .1)
 
@@ -94,13 +71,8 @@ reach-from-spec =
     Inv-loop
     μ-loop
     loop-holds
-    category-flag-requires
-    mul-reach-of
-    add-reach-of
-    mul-reach-of-2
-    shared-slice-read-reach-of
-    reach-of-requires
-    add-a
-    loop-less
+    (λ c κs. search needs) (λ c. omega (arith, few (c .before .before)))
+    (λ c. omega (arith, few (c .before .before))) (λ c. omega (arith, few (c .before .before)))
+    (λ c. inside (c .before .before .before)) (search needs) (search needs) (search needs)
     loop-again
     returns)

@@ -7,12 +7,6 @@ use Rattle.marks.proofs.reach_of.Tie as tie
 returns : tie.Need-returns
 returns c = rw (c .if1 .taken) (row-empty _)
 
-last-requires : tie.Need-last-requires
-last-requires c κs = search needs
-
-cast-last : tie.Need-cast-last
-cast-last c = search needs
-
 returns-2 : tie.Need-returns-2
 returns-2 c = row-further _ _ _ (c .before .last .ensures) (c .if2 .taken)
 
@@ -20,4 +14,4 @@ returns-3 : tie.Need-returns-3
 returns-3 c = row-nearer _ _ _ (c .before .last .ensures) (c .if2 .left)
 
 pub reach-of-spec : {M : Type 1} → statement M
-reach-of-spec = tie.close (tie.spec returns last-requires cast-last returns-2 returns-3)
+reach-of-spec = tie.close (tie.spec returns (search needs) (search needs) returns-2 returns-3)

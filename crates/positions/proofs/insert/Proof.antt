@@ -4,11 +4,8 @@ use Rattle.positions.proofs.Shifts.{with-shift}
 use Rattle.positions.proofs.insert.Statement.{statement}
 use Rattle.positions.proofs.insert.Tie as tie
 
-shl-result : tie.Need-shl-result
-shl-result c = search needs
-
 returns : tie.Need-returns
 returns c = with-shift (c .args .set) (c .args .at) (c .pre)
 
 pub insert-spec : {M : Type 1} → statement M
-insert-spec = tie.close (tie.spec shl-result returns)
+insert-spec = tie.close (tie.spec (search needs) returns)

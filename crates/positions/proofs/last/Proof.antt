@@ -5,11 +5,8 @@ use Rattle.positions.proofs.Extremes.{last-leading}
 use Rattle.positions.proofs.last.Statement.{statement}
 use Rattle.positions.proofs.last.Tie as tie
 
-sub-result : tie.Need-sub-result
-sub-result c = omega (arith, leading-top 64 (c .args .set) (c .pre) (c .fits .set .fits) .1)
-
 returns : tie.Need-returns
 returns c = last-leading (c .args .set) (c .pre) (c .fits .set .fits)
 
 pub last-spec : {M : Type 1} → statement M
-last-spec = tie.close (tie.spec sub-result returns)
+last-spec = tie.close (tie.spec (λ c. omega (arith, leading-top 64 (c .args .set) (c .pre) (c .fits .set .fits) .1)) returns)

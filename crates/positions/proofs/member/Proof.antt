@@ -8,12 +8,9 @@ use Rattle.positions.specs.Member.{digit}
 use Rattle.positions.proofs.member.Statement.{statement}
 use Rattle.positions.proofs.member.Tie as tie
 
-shr-result : tie.Need-shr-result
-shr-result c = search needs
-
 returns : tie.Need-returns
 unfolding digit
 returns c = ap (λ (y : ℕ). eqb y 1) (and-mask (c .args .set / 2 ^ c .args .at) 1)
 
 pub member-spec : {M : Type 1} → statement M
-member-spec = tie.close (tie.spec shr-result returns)
+member-spec = tie.close (tie.spec (search needs) returns)

@@ -7,49 +7,30 @@ use Rattle.report.proofs.CheckLaws.{job-refused, job-passed}
 use Rattle.report.proofs.job_piece.Statement.{statement}
 use Rattle.report.proofs.job_piece.Tie as tie
 
-checked-requires : tie.Need-checked-requires
-checked-requires c κs = search needs
-
-enum-known-refusal : tie.Need-enum-known-refusal
-enum-known-refusal c = search needs
-
-refused-piece-requires : tie.Need-refused-piece-requires
-refused-piece-requires c κs = search needs
-
-enum-known-s : tie.Need-enum-known-s
-enum-known-s c = search needs
-
 answer-piece-requires : tie.Need-answer-piece-requires
 answer-piece-requires c κs = let told = c .before .before in (sym (told .before .before .checked .ensures) ∙ told .s .given .1, search needs)
-
-same-length : tie.Need-same-length
-same-length c = search needs
 
 returns : tie.Need-returns
 unfolding chartPieces
 returns c =
-    let told = c .before .before .before .before .before in
-    rw (job-refused _ _ _ (sym (told .before .before .checked .ensures) ∙ told .refusal .given .1)) (c .before .before .refused-piece .ensures)
-
-same-length-2 : tie.Need-same-length-2
-same-length-2 c = search needs
+    let answered = c .before .before in
+    let told = answered .before .before .before in
+    rw (job-refused _ _ _ (sym (told .before .before .checked .ensures) ∙ told .refusal .given .1)) (answered .refused-piece .ensures)
 
 returns-2 : tie.Need-returns-2
 unfolding chartPieces
 returns-2 c =
-    let told = c .before .before .before .before .before in
-    rw (job-passed (checked-accepted _ _ _ _ _ _ (sym (told .before .before .checked .ensures) ∙ told .s .given .1))) (c .before .before .answer-piece .ensures)
+    let answered = c .before .before in
+    let told = answered .before .before .before in
+    rw (job-passed (checked-accepted _ _ _ _ _ _ (sym (told .before .before .checked .ensures) ∙ told .s .given .1))) (answered .answer-piece .ensures)
 
 pub job-piece-spec : {M : Type 1} → statement M
 job-piece-spec =
     tie.close
     (tie.spec
-    checked-requires
-    enum-known-refusal
-    refused-piece-requires
-    enum-known-s
+    (search needs) (search needs) (search needs) (search needs)
     answer-piece-requires
-    same-length
+    (search needs)
     returns
-    same-length-2
+    (search needs)
     returns-2)

@@ -18,17 +18,14 @@ returns c =
     let past : 0 < a .number = omega arith in
     piece-none (refusedLine (rowOf (a .refusal)) ∷ []) (a .number) false (sym (le-ltb (suc (a .number)) 1 (omega arith))) (none-after-one (refusedLine (rowOf (a .refusal))) (a .number) past)
 
-refused-line-requires : tie.Need-refused-line-requires
-refused-line-requires c κs = omega (arith, c .before .before .before .pre)
-
-same-length : tie.Need-same-length
-same-length c = search needs
-
 returns-2 : tie.Need-returns-2
 returns-2 c =
-    let a = c .before .before .before .before .before .before .args in
+    let call = c .before .before .before in
+    let a = call .before .before .before .args in
     let e : a .number ≡ 0 = omega arith in
     rw e (piece-stored (refusedLine (rowOf (a .refusal)) ∷ []) 0 false refl (refusedLine (rowOf (a .refusal))) refl (c .before .before .refused-line .ensures .0))
 
 pub refused-piece-spec : {M : Type 1} → statement M
-refused-piece-spec = tie.close (tie.spec returns refused-line-requires same-length returns-2)
+refused-piece-spec =
+    tie.close
+    (tie.spec returns (λ c κs. omega (arith, c .before .before .before .pre)) (search needs) returns-2)

@@ -20,76 +20,18 @@ read c = job-read _ _ (sym (c .before .before .read-job .ensures) ∙ c .job .gi
 abbrev told : tie.After-job-piece-arg → tie.After-job
 told c = c .before .before .before .before
 
-read-job-requires : tie.Need-read-job-requires
-read-job-requires c κs = search needs
-
-enum-known-refusal : tie.Need-enum-known-refusal
-enum-known-refusal c = search needs
-
-refused-piece-requires : tie.Need-refused-piece-requires
-refused-piece-requires c κs = search needs
-
-enum-known-job : tie.Need-enum-known-job
-enum-known-job c = search needs
-
-add-line-at : tie.Need-add-line-at
-add-line-at c = omega (arith, read (c .before .before) .whole)
-
-add-line-end : tie.Need-add-line-end
-add-line-end c = omega (arith, read (c .before .before .before) .whole)
-
-add-questions-at : tie.Need-add-questions-at
-add-questions-at c = omega (arith, read (c .before .before .before) .whole)
-
-sub-grammar-end : tie.Need-sub-grammar-end
-sub-grammar-end c = search needs
-
-sub-job-piece : tie.Need-sub-job-piece
-sub-job-piece c = search needs
-
-part-job-piece-start : tie.Need-part-job-piece-start
-part-job-piece-start c = search needs
-
-part-job-piece-end : tie.Need-part-job-piece-end
-part-job-piece-end c = omega (arith, read (c .before .before .before) .whole)
-
-sub-job-piece-2 : tie.Need-sub-job-piece-2
-sub-job-piece-2 c = search needs
-
-part-job-piece-start-2 : tie.Need-part-job-piece-start-2
-part-job-piece-start-2 c = search needs
-
-part-job-piece-end-2 : tie.Need-part-job-piece-end-2
-part-job-piece-end-2 c = omega (arith, read (told c) .whole)
-
-sub-job-piece-3 : tie.Need-sub-job-piece-3
-sub-job-piece-3 c = omega (arith, read (told (c .before)) .whole)
-
-part-job-piece-start-3 : tie.Need-part-job-piece-start-3
-part-job-piece-start-3 c = omega (arith, read (told (c .before)) .whole)
-
-part-job-piece-end-3 : tie.Need-part-job-piece-end-3
-part-job-piece-end-3 c = search needs
-
-job-piece-requires : tie.Need-job-piece-requires
-job-piece-requires c κs = search needs
-
-same-length : tie.Need-same-length
-same-length c = search needs
-
 returns : tie.Need-returns
 unfolding pieces
 returns c =
-    let refused = c .before .before .before .before .before in
-    rw (sym (refused .before .before .read-job .ensures) ∙ refused .refusal .given .1) (c .before .before .refused-piece .ensures)
-
-same-length-2 : tie.Need-same-length-2
-same-length-2 c = search needs
+    let answered = c .before .before in
+    let refused = answered .before .before .before in
+    rw (sym (refused .before .before .read-job .ensures) ∙ refused .refusal .given .1) (answered .refused-piece .ensures)
 
 returns-2 : tie.Need-returns-2
 unfolding pieces
 returns-2 c =
-    let asked = told (c .before .before .before .before .before .before) in
+    let call = c .before .before .before in
+    let asked = told (call .before .before .before) in
     let job = asked .job .given .0 .0 in
     let e₁ : 3 + job .grammar - 1 - 2 ≡ job .grammar = omega arith in
     let e₂ : 3 + job .grammar + job .line - (3 + job .grammar) ≡ job .line = omega arith in
@@ -100,25 +42,16 @@ pub write-piece-spec : {M : Type 1} → statement M
 write-piece-spec =
     tie.close
     (tie.spec
-    read-job-requires
-    enum-known-refusal
-    refused-piece-requires
-    enum-known-job
-    add-line-at
-    add-line-end
-    add-questions-at
-    sub-grammar-end
-    sub-job-piece
-    part-job-piece-start
-    part-job-piece-end
-    sub-job-piece-2
-    part-job-piece-start-2
-    part-job-piece-end-2
-    sub-job-piece-3
-    part-job-piece-start-3
-    part-job-piece-end-3
-    job-piece-requires
-    same-length
+    (search needs) (search needs) (search needs) (search needs)
+    (λ c. omega (arith, read (c .before .before) .whole))
+    (λ c. omega (arith, read (c .before .before .before) .whole))
+    (λ c. omega (arith, read (c .before .before .before) .whole))
+    (search needs) (search needs) (search needs)
+    (λ c. omega (arith, read (c .before .before .before) .whole))
+    (search needs) (search needs) (λ c. omega (arith, read (told c) .whole))
+    (λ c. omega (arith, read (told (c .before)) .whole))
+    (λ c. omega (arith, read (told (c .before)) .whole))
+    (search needs) (search needs) (search needs)
     returns
-    same-length-2
+    (search needs)
     returns-2)

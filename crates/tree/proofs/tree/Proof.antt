@@ -13,12 +13,12 @@ use borrow.Author.Needs.{needs}
 use Rattle.tree.proofs.tree.Statement.{statement}
 use Rattle.tree.proofs.tree.Tie as tie
 
--- the function's entry, from where the checks have passed
-abbrev origin : tie.After-s → tie.Start
-origin c = c .before .before .before .before .before .before .before .before
+-- the function's entry
+abbrev origin : tie.After-checked → tie.Start
+origin c = c .before .before .before .before .before .before
 
 passes : (c : tie.After-s) →
-    let a = origin c .args in
+    let a = origin (c .before .before) .args in
     Passes (now (a .g)) (now (a .line)) (Span (a .category) (a .start) (a .end)) (length (now (a .words))) (length (now (a .depths))) (c .s .given .0 .0)
 passes c = checked-accepted _ _ _ _ _ _ (sym (c .before .before .checked .ensures) ∙ c .s .given .1)
 
@@ -26,58 +26,41 @@ passes c = checked-accepted _ _ _ _ _ _ (sym (c .before .before .checked .ensure
 abbrev asked : tie.After-fill → tie.After-s
 asked c = c .before .before .before .before
 
-checked-requires : tie.Need-checked-requires
-checked-requires c κs = search needs
-
-enum-known-refusal : tie.Need-enum-known-refusal
-enum-known-refusal c = search needs
+-- the memory is filled, from where the tree is to be shown
+abbrev filled : tie.After-show-arg3 → tie.After-fill
+filled c = c .before .before .before .before .before .before .before
 
 returns : tie.Need-returns
 returns c =
-    let a = c .before .before .before .before .before .before .before .before .before .args in
+    let checks = c .before .before .before in
+    let a = origin checks .args in
     let asked = Span (a .category) (a .start) (a .end) in
     let G = grammarGiven (now (a .g)) in
-    tree-turned _ _ _ _ _ _ _ _ _ (checked-refused (readOf (now (a .g))) G (now (a .line)) asked (now (a .words)) (now (a .depths)) Passed Passed _ (sym (c .before .before .before .checked .ensures) ∙ c .before .refusal .given .1))
-
-enum-known-s : tie.Need-enum-known-s
-enum-known-s c = search needs
+    tree-turned _ _ _ _ _ _ _ _ _ (checked-refused (readOf (now (a .g))) G (now (a .line)) asked (now (a .words)) (now (a .depths)) Passed Passed _ (sym (checks .checked .ensures) ∙ c .before .refusal .given .1))
 
 fill-requires : tie.Need-fill-requires
 fill-requires c κs = let p = passes (c .before .before .before) in (sections p, line-is p, memory-is p .0, memory-is p .1)
 
 show-requires : tie.Need-show-requires
 show-requires c κs =
-    let filled = c .before .before .before .before .before .before .before in
-    let p = passes (asked filled) in
+    let p = passes (asked (filled c)) in
     let span = span-passed _ _ _ _ _ (asked-is p) in
-    let work = filled .fill .ensures .work in
+    let work = filled c .fill .ensures .work in
     (p .read, line-is p .short, span .0, span .1, span .2, rw (work .depths-long) (memory-is p .1), filled-kept p work, rw (work .words-long) (memory-is p .0), filled-rows p work)
-
-same-length : tie.Need-same-length
-same-length c = search needs
-
-same-length-2 : tie.Need-same-length-2
-same-length-2 c = search needs
-
-same-length-3 : tie.Need-same-length-3
-same-length-3 c = search needs
 
 returns-2 : tie.Need-returns-2
 returns-2 c =
-    let filled = c .before .before .before .before .before .before .before .before .before .before in
-    tree-shown _ _ _ _ _ _ _ _ _ (passes (asked filled)) (filled .fill .ensures .work) _ _ (c .before .before .show .ensures)
+    let f = filled (c .before .before .before) in
+    tree-shown _ _ _ _ _ _ _ _ _ (passes (asked f)) (f .fill .ensures .work) _ _ (c .before .before .show .ensures)
 
 pub tree-spec : {M : Type 1} → statement M
 tree-spec =
     tie.close
     (tie.spec
-    checked-requires
-    enum-known-refusal
+    (search needs) (search needs)
     returns
-    enum-known-s
+    (search needs)
     fill-requires
     show-requires
-    same-length
-    same-length-2
-    same-length-3
+    (search needs) (search needs) (search needs)
     returns-2)

@@ -9,26 +9,11 @@ use Rattle.chart.proofs.work.checked.Statement.{statement}
 use Rattle.chart.proofs.work.checked.Tie as tie
 
 -- the grammar was accepted
-was-read : (c : tie.After-s) → readOf (now (c .before .before .before .before .before .args .g)) ≡ Accepted (c .s .given .0 .0)
+was-read : (c : tie.After-s) → let read = c .before .before in readOf (now (read .before .before .before .args .g)) ≡ Accepted (c .s .given .0 .0)
 was-read c = sym (c .before .before .read .ensures) ∙ c .s .given .1
-
-read-requires : tie.Need-read-requires
-read-requires c κs = search needs
-
-enum-known-refusal : tie.Need-enum-known-refusal
-enum-known-refusal c = search needs
-
-enum-known-s : tie.Need-enum-known-s
-enum-known-s c = search needs
 
 check-rest-requires : tie.Need-check-rest-requires
 check-rest-requires c κs = let read = was-read (c .before) in whole _ _ (accepted _ _ read .0) .categories-high
-
-enum-known-refusal-2 : tie.Need-enum-known-refusal-2
-enum-known-refusal-2 c = search needs
-
-enum-told : tie.Need-enum-told
-enum-told c = search needs
 
 returns : tie.Need-returns
 returns c = simp (sym (c .before .before .before .read .ensures) ∙ c .before .refusal .given .1)
@@ -47,12 +32,9 @@ pub checked-spec : {M : Type 1} → statement M
 checked-spec =
     tie.close
     (tie.spec
-    read-requires
-    enum-known-refusal
-    enum-known-s
+    (search needs) (search needs) (search needs)
     check-rest-requires
-    enum-known-refusal-2
-    enum-told
+    (search needs) (search needs)
     returns
     returns-2
     returns-3)

@@ -21,34 +21,18 @@ abbrev μ-loop : tie.MeasureT-loop
 loop-holds : tie.Need-loop-holds Inv-loop μ-loop
 loop-holds c = (search needs, sym (total-none _))
 
-mul-count : tie.Need-mul-count Inv-loop μ-loop
-mul-count c = search needs
-
-shared-slice-read-count : tie.Need-shared-slice-read-count Inv-loop μ-loop
-shared-slice-read-count c = search needs
-
-count-requires : tie.Need-count-requires Inv-loop μ-loop
-count-requires c κs = search needs
-
-cast-ends : tie.Need-cast-ends Inv-loop μ-loop
-cast-ends c = search needs
-
 add-ends : tie.Need-add-ends Inv-loop μ-loop
 add-ends c =
-    let l = c .before .before .before .loop in
-    let words = now (c .before .before .before .before .before .args .words) in
+    let turn = c .before .before .before in
+    let l = turn .loop in
+    let words = now (turn .before .before .args .words) in
     omega (arith, total-le (λ k. countBelow 64 (getD words k 0)) 64 (l .q) (λ k. count-le 64 (getD words k 0)), count-le 64 (getD words (l .q) 0), l .inv .1, c .count .ensures)
-
-add-q : tie.Need-add-q Inv-loop μ-loop
-add-q c = search needs
-
-loop-less : tie.Need-loop-less Inv-loop μ-loop
-loop-less c = search needs
 
 loop-again : tie.Need-loop-again Inv-loop μ-loop
 loop-again c =
-    let l = c .before .before .before .loop in
-    let words = now (c .before .before .before .before .before .args .words) in
+    let turn = c .before .before .before in
+    let l = turn .loop in
+    let words = now (turn .before .before .args .words) in
     (search needs, omega (arith, total-next (λ k. countBelow 64 (getD words k 0)) (l .q), l .inv .1, c .count .ensures))
 
 returns : tie.Need-returns Inv-loop μ-loop
@@ -64,12 +48,8 @@ count-ends-spec =
     Inv-loop
     μ-loop
     loop-holds
-    mul-count
-    shared-slice-read-count
-    count-requires
-    cast-ends
+    (search needs) (search needs) (search needs) (search needs)
     add-ends
-    add-q
-    loop-less
+    (search needs) (search needs)
     loop-again
     returns)

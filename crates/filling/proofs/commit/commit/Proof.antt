@@ -36,14 +36,12 @@ module _ (c : tie.In-loop Inv-loop μ-loop) where
   few : end ≤ 2048
   few = omega (arith, inside, mul-le-mul-right {m = entry (c .before) .args .categories} {n = 32} width (entry (c .before) .pre .1))
 
+-- the rows of a category are committed, from where the lengths are known again
+abbrev committed : tie.After-slice-known4 Inv-loop μ-loop → tie.After-commit-rows Inv-loop μ-loop
+committed c = c .before .before .before .before
+
 loop-holds : tie.Need-loop-holds Inv-loop μ-loop
 loop-holds c = let a = c .before .before .args in (search needs, all-none (a .width) (a .depth) (now (a .next)) (now (a .words)) (now (a .depths)))
-
-mul-from : tie.Need-mul-from Inv-loop μ-loop
-mul-from c = omega (arith, few c)
-
-add-commit-rows : tie.Need-add-commit-rows Inv-loop μ-loop
-add-commit-rows c = omega (arith, few (c .before .before))
 
 commit-rows-requires : tie.Need-commit-rows-requires Inv-loop μ-loop
 commit-rows-requires c κs =
@@ -56,18 +54,9 @@ commit-rows-requires c κs =
       few i,
     )
 
-insert-requires : tie.Need-insert-requires Inv-loop μ-loop
-insert-requires c κs = omega arith
-
-add-a : tie.Need-add-a Inv-loop μ-loop
-add-a c = omega arith
-
-loop-less : tie.Need-loop-less Inv-loop μ-loop
-loop-less c = omega arith
-
 loop-again : tie.Need-loop-again Inv-loop μ-loop
 loop-again c =
-    let rows = c .before .before .before .before .before in
+    let rows = committed (c .before) in
     let k = rows .commit-rows in
     let i = rows .before .before .before in
     let a = entry (i .before) .args in
@@ -78,12 +67,6 @@ loop-again c =
           (λ A. ⊎-elim (λ p. rw (p .2) (λ m. ⊎-elim inl (λ e. inr (e, p .0 .taken)) (p .1 .ensures A .0 m), λ s. p .1 .ensures A .1 (⊎-elim inl (λ e. inr (e .0)) s)))
           (λ p. rw (p .1) (inl, ⊎-elim (λ m. m) (λ e. absurd (false≢true (sym (p .0 .left) ∙ e .1))))) (c .if1 .came)),
     )
-
-same-length : tie.Need-same-length Inv-loop μ-loop
-same-length c = c .before .loop .inv .1 .committed .words-long
-
-same-length-2 : tie.Need-same-length-2 Inv-loop μ-loop
-same-length-2 c = c .before .loop .inv .1 .committed .depths-long
 
 returns : tie.Need-returns Inv-loop μ-loop
 returns c =
@@ -99,13 +82,10 @@ commit-spec =
     Inv-loop
     μ-loop
     loop-holds
-    mul-from
-    add-commit-rows
+    (λ c. omega (arith, few c)) (λ c. omega (arith, few (c .before .before)))
     commit-rows-requires
-    insert-requires
-    add-a
-    loop-less
+    (search needs) (search needs) (search needs)
     loop-again
-    same-length
-    same-length-2
+    (λ c. c .before .loop .inv .1 .committed .words-long)
+    (λ c. c .before .loop .inv .1 .committed .depths-long)
     returns)

@@ -55,18 +55,6 @@ loop-holds c =
     let a = c .before .before .args in
     (search needs, search needs, rows-same (a .width) (a .depth) (now (a .next)) (a .from) (a .from) (now (a .words)) (now (a .depths)) (λ q l h. absurd (omega arith)))
 
-mul-old : tie.Need-mul-old Inv-loop μ-loop
-mul-old c = omega arith
-
-slice-read-old : tie.Need-slice-read-old Inv-loop μ-loop
-slice-read-old c = omega (arith, ready (c .before .before) .words-room)
-
-mul-new : tie.Need-mul-new Inv-loop μ-loop
-mul-new c = omega arith
-
-element-copy-out-new : tie.Need-element-copy-out-new Inv-loop μ-loop
-element-copy-out-new c = omega arith
-
 mul-write-depths : tie.Need-mul-write-depths Inv-loop μ-loop
 mul-write-depths c =
     let a = entry (turn c) .args in
@@ -79,21 +67,10 @@ write-depths-requires c κs = λ j m.
     let l : t .loop .q < entry t .args .to = omega arith in
     omega (arith, digits-lt l (r .narrow (t .loop .q) j l (xor-member _ _ j (r .grows (t .loop .q) j l) .0 m .0)), r .depths-room)
 
-mul-words : tie.Need-mul-words Inv-loop μ-loop
-mul-words c = omega arith
-
-slice-write-words : tie.Need-slice-write-words Inv-loop μ-loop
-slice-write-words c = omega (arith, ready (turn (c .before .before .before)) .words-room)
-
-add-q : tie.Need-add-q Inv-loop μ-loop
-add-q c = omega arith
-
-loop-less : tie.Need-loop-less Inv-loop μ-loop
-loop-less c = omega arith
-
 loop-again : tie.Need-loop-again Inv-loop μ-loop
 loop-again c =
-    let t = c .before .before .before .before in
+    let i = c .before .before .before in
+    let t = i .before in
     let a = entry t .args in
     let l = t .loop in (
       search needs,
@@ -110,12 +87,6 @@ loop-again c =
           (c .if1 .came),
     )
 
-same-length : tie.Need-same-length Inv-loop μ-loop
-same-length c = c .before .loop .inv .2 .committed .words-long
-
-same-length-2 : tie.Need-same-length-2 Inv-loop μ-loop
-same-length-2 c = c .before .loop .inv .2 .committed .depths-long
-
 returns : tie.Need-returns Inv-loop μ-loop
 returns c =
     let a = entry (c .before) .args in
@@ -130,17 +101,15 @@ commit-rows-spec =
     Inv-loop
     μ-loop
     loop-holds
-    mul-old
-    slice-read-old
-    mul-new
-    element-copy-out-new
+    (search needs)
+    (λ c. omega (arith, ready (c .before .before) .words-room))
+    (search needs) (search needs)
     mul-write-depths
     write-depths-requires
-    mul-words
-    slice-write-words
-    add-q
-    loop-less
+    (search needs)
+    (λ c. omega (arith, ready (turn (c .before .before .before)) .words-room))
+    (search needs) (search needs)
     loop-again
-    same-length
-    same-length-2
+    (λ c. c .before .loop .inv .2 .committed .words-long)
+    (λ c. c .before .loop .inv .2 .committed .depths-long)
     returns)

@@ -26,6 +26,9 @@ abbrev μ-loop : tie.MeasureT-loop
 
 -- the member that a turn takes
 module _ (c : tie.After-first Inv-loop μ-loop) where
+  abbrev entry : tie.Start Inv-loop μ-loop
+  entry = c .before .before .before .before
+
   abbrev left : ℕ
   left = c .before .before .loop .left
 
@@ -44,39 +47,15 @@ module _ (c : tie.After-first Inv-loop μ-loop) where
   power : (1 * 2 ^ taken) % 2 ^ 64 ≡ 2 ^ taken
   power = one-shifted taken small
 
-  room : let a = c .before .before .before .before .args in a .base + taken < length (now (a .depths))
+  room : let a = entry .args in a .base + taken < length (now (a .depths))
   room = c .before .before .loop .inv .2 taken here
 
 loop-holds : tie.Need-loop-holds Inv-loop μ-loop
 loop-holds c = (search needs, refl, c .before .pre, λ final d. d)
 
-first-requires : tie.Need-first-requires Inv-loop μ-loop
-first-requires c κs = search needs
-
-cast-j : tie.Need-cast-j Inv-loop μ-loop
-cast-j c = search needs
-
-add-depths : tie.Need-add-depths Inv-loop μ-loop
-add-depths c = omega (arith, room c)
-
-mul-depths : tie.Need-mul-depths Inv-loop μ-loop
-mul-depths c = omega (arith, room c)
-
-slice-write-depths : tie.Need-slice-write-depths Inv-loop μ-loop
-slice-write-depths c = omega (arith, room c)
-
-shl-left : tie.Need-shl-left Inv-loop μ-loop
-shl-left c = small c
-
-sub-left : tie.Need-sub-left Inv-loop μ-loop
-sub-left c = rw (power c) (one-le _ _ (here c))
-
-loop-less : tie.Need-loop-less Inv-loop μ-loop
-loop-less c = omega (arith, power c, one-le _ _ (here c), pow-pos (taken c))
-
 loop-again : tie.Need-loop-again Inv-loop μ-loop
 loop-again c =
-    let a = c .before .before .before .before .args in
+    let a = entry c .args in
     let l = c .before .before .loop in
     rw (power c) (
       omega (arith, l .inv .0),
@@ -91,9 +70,6 @@ returns c =
     let l = c .before .loop in
     l .inv .3 (l .depths) (subst (λ (x : ℕ). Deepened (a .base) x (a .depth) (l .depths) (l .depths)) (sym (c .loop-test .left)) (deepened-none (a .base) (a .depth) (l .depths)))
 
-same-length : tie.Need-same-length Inv-loop μ-loop
-same-length c = c .before .loop .inv .1
-
 pub write-depths-spec : {M : Type 1} → statement M
 write-depths-spec =
     tie.close
@@ -101,14 +77,11 @@ write-depths-spec =
     Inv-loop
     μ-loop
     loop-holds
-    first-requires
-    cast-j
-    add-depths
-    mul-depths
-    slice-write-depths
-    shl-left
-    sub-left
-    loop-less
+    (search needs) (search needs) (λ c. omega (arith, room c)) (λ c. omega (arith, room c))
+    (λ c. omega (arith, room c))
+    small
+    (λ c. rw (power c) (one-le _ _ (here c)))
+    (λ c. omega (arith, power c, one-le _ _ (here c), pow-pos (taken c)))
     loop-again
-    same-length
+    (λ c. c .before .loop .inv .1)
     returns)

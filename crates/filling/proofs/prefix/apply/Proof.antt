@@ -24,35 +24,8 @@ inside c = rows-few (c .args .left) (c .args .width) (c .pre .1) (c .pre .0 .nar
 within : (c : tie.In-loop Inv-loop μ-loop) → entry (c .before) .args .left * entry (c .before) .args .width + c .before .loop .start < 2048
 within c = omega (arith, inside (entry (c .before)))
 
-mul-base : tie.Need-mul-base Inv-loop μ-loop
-mul-base c = omega (arith, inside (c .before .before))
-
 loop-holds : tie.Need-loop-holds Inv-loop μ-loop
 loop-holds c = (search needs, applied-none)
-
-reach-requires : tie.Need-reach-requires Inv-loop μ-loop
-reach-requires c κs = search needs
-
-add-q : tie.Need-add-q Inv-loop μ-loop
-add-q c = omega (arith, within (c .before))
-
-mul-next : tie.Need-mul-next Inv-loop μ-loop
-mul-next c = omega (arith, within (c .before))
-
-element-copy-out-next : tie.Need-element-copy-out-next Inv-loop μ-loop
-element-copy-out-next c = within (c .before)
-
-mul-next-2 : tie.Need-mul-next-2 Inv-loop μ-loop
-mul-next-2 c = omega (arith, within (c .before .before))
-
-element-write-next : tie.Need-element-write-next Inv-loop μ-loop
-element-write-next c = within (c .before .before)
-
-add-start : tie.Need-add-start Inv-loop μ-loop
-add-start c = search needs
-
-loop-less : tie.Need-loop-less Inv-loop μ-loop
-loop-less c = search needs
 
 loop-again : tie.Need-loop-again Inv-loop μ-loop
 loop-again c =
@@ -74,15 +47,11 @@ apply-spec =
     (tie.spec
     Inv-loop
     μ-loop
-    mul-base
+    (λ c. omega (arith, inside (c .before .before)))
     loop-holds
-    reach-requires
-    add-q
-    mul-next
-    element-copy-out-next
-    mul-next-2
-    element-write-next
-    add-start
-    loop-less
+    (λ c κs. search needs) (λ c. omega (arith, within (c .before))) (λ c. omega (arith, within (c .before)))
+    (λ c. within (c .before))
+    (λ c. omega (arith, within (c .before .before)))
+    (λ c. within (c .before .before)) (search needs) (search needs)
     loop-again
     returns)

@@ -15,15 +15,12 @@ Inv-loop symbols words places width start ends₀ d₀ ends d = (d ≤ length sy
 abbrev μ-loop : tie.MeasureT-loop
 μ-loop symbols words places width start ends₀ d₀ ends d = length symbols - d
 
--- the function's entry, from the loop; and the loop, from where a category stands
+-- the function's entry, from the loop; and the loop, from where a symbol is read
 abbrev entry : tie.At-loop Inv-loop μ-loop → tie.Start Inv-loop μ-loop
 entry c = c .before .before .before .before
 
-abbrev turn : tie.Else2 Inv-loop μ-loop → tie.At-loop Inv-loop μ-loop
-turn c = c .before .before .before .before
-
-insert-requires : tie.Need-insert-requires Inv-loop μ-loop
-insert-requires c κs = search needs
+abbrev turn : tie.After-shared-slice-known3 Inv-loop μ-loop → tie.At-loop Inv-loop μ-loop
+turn c = c .before .before .before
 
 loop-holds : tie.Need-loop-holds Inv-loop μ-loop
 loop-holds c = (search needs, reached-none (c .insert .result) (c .before .before .before .pre .1) (c .insert .ensures))
@@ -31,40 +28,13 @@ loop-holds c = (search needs, reached-none (c .insert .result) (c .before .befor
 returns : tie.Need-returns Inv-loop μ-loop
 returns c = let l = c .before .before .loop in reached-nowhere (l .d) (l .ends) (c .if1 .taken) (l .inv .1)
 
-shared-slice-read-symbol : tie.Need-shared-slice-read-symbol Inv-loop μ-loop
-shared-slice-read-symbol c = search needs
-
-cast-symbol : tie.Need-cast-symbol Inv-loop μ-loop
-cast-symbol c = omega (arith, c .shared-slice-known3 .given (c .before .before .before .loop .d))
-
-mul-after-class : tie.Need-mul-after-class Inv-loop μ-loop
-mul-after-class c = search needs
-
-element-copy-out-after-class : tie.Need-element-copy-out-after-class Inv-loop μ-loop
-element-copy-out-after-class c = search needs
-
-after-class-requires : tie.Need-after-class-requires Inv-loop μ-loop
-after-class-requires c κs = let l = c .before .before .before .before .before in entry l .pre .0 .small _
-
 -- the rows of the category are in the words
-inside : (c : tie.Else2 Inv-loop μ-loop) → let l = turn c in let a = entry l .args in (getD (now (a .symbols)) (l .loop .d) 0 - 128) * a .width + a .width ≤ length (now (a .words))
-inside c = let l = turn c in entry l .pre .0 .rows (l .loop .d) (c .before .before .before .loop-test .taken) (c .if2 .left)
-
-mul-union : tie.Need-mul-union Inv-loop μ-loop
-mul-union c = omega (arith, inside c)
-
-union-requires : tie.Need-union-requires Inv-loop μ-loop
-union-requires c κs = (entry (turn c) .pre .0 .narrow, inside c)
-
-add-d : tie.Need-add-d Inv-loop μ-loop
-add-d c = search needs
-
-loop-less : tie.Need-loop-less Inv-loop μ-loop
-loop-less c = search needs
+inside : (c : tie.Else2 Inv-loop μ-loop) → let l = turn (c .before) in let a = entry l .args in (getD (now (a .symbols)) (l .loop .d) 0 - 128) * a .width + a .width ≤ length (now (a .words))
+inside c = let l = turn (c .before) in entry l .pre .0 .rows (l .loop .d) (c .before .before .before .loop-test .taken) (c .if2 .left)
 
 loop-again : tie.Need-loop-again Inv-loop μ-loop
 loop-again c =
-    let l = c .before .before .before .before .loop in
+    let l = turn (c .before) .loop in
     let t = c .before .before .before .loop-test .taken in (
       search needs,
       ⊎-elim
@@ -82,17 +52,15 @@ reach-spec =
     (tie.spec
     Inv-loop
     μ-loop
-    insert-requires
+    (search needs)
     loop-holds
     returns
-    shared-slice-read-symbol
-    cast-symbol
-    mul-after-class
-    element-copy-out-after-class
-    after-class-requires
-    mul-union
-    union-requires
-    add-d
-    loop-less
+    (search needs)
+    (λ c. omega (arith, c .shared-slice-known3 .given (turn c .loop .d)))
+    (search needs) (search needs)
+    (λ c κs. entry (turn (c .before .before)) .pre .0 .small _)
+    (λ c. omega (arith, inside c))
+    (λ c κs. (entry (turn (c .before)) .pre .0 .narrow, inside c))
+    (search needs) (search needs)
     loop-again
     returns-2)

@@ -24,60 +24,36 @@ abbrev μ-loop : tie.MeasureT-loop
 loop-holds : tie.Need-loop-holds Inv-loop μ-loop
 loop-holds c = (search needs, λ s e. rules-none)
 
--- the function's entry, and rule p where it stands
-abbrev entry : tie.In-loop Inv-loop μ-loop → tie.Start Inv-loop μ-loop
-entry c = c .before .before .before .before
+-- the function's entry; the turn, from where the rule's category is read; and rule p where it stands
+abbrev entry : tie.At-loop Inv-loop μ-loop → tie.Start Inv-loop μ-loop
+entry c = c .before .before .before
+
+abbrev turn : tie.After-rule-left Inv-loop μ-loop → tie.In-loop Inv-loop μ-loop
+turn c = c .before .before .before .before
 
 few : (c : tie.In-loop Inv-loop μ-loop) → c .before .loop .p < 128
-few c = omega (arith, whole _ _ (entry c .pre .0) .rules-high)
+few c = omega (arith, whole _ _ (entry (c .before) .pre .0) .rules-high)
 
-here : (c : tie.In-loop Inv-loop μ-loop) → Found (now (entry c .args .g)) (entry c .args .s) (c .before .loop .p) (getD (now (entry c .args .starts)) (c .before .loop .p) 0)
-here c = entry c .pre .1 .found (c .before .loop .p) (omega arith)
-
-mul-if1 : tie.Need-mul-if1 Inv-loop μ-loop
-mul-if1 c = omega (arith, few c)
-
-element-copy-out-if1 : tie.Need-element-copy-out-if1 Inv-loop μ-loop
-element-copy-out-if1 c = few c
-
-mul-at : tie.Need-mul-at Inv-loop μ-loop
-mul-at c = omega (arith, few (c .before .before))
-
-element-copy-out-at : tie.Need-element-copy-out-at Inv-loop μ-loop
-element-copy-out-at c = few (c .before .before)
-
-rule-left-requires : tie.Need-rule-left-requires Inv-loop μ-loop
-rule-left-requires c κs = here (c .before .before .before) .stands
-
-cast-left : tie.Need-cast-left Inv-loop μ-loop
-cast-left c = search needs
-
-rule-symbols-requires : tie.Need-rule-symbols-requires Inv-loop μ-loop
-rule-symbols-requires c κs = let turn = c .before .before .before .before in here turn .stands
+here : (c : tie.In-loop Inv-loop μ-loop) → Found (now (entry (c .before) .args .g)) (entry (c .before) .args .s) (c .before .loop .p) (getD (now (entry (c .before) .args .starts)) (c .before .loop .p) 0)
+here c = entry (c .before) .pre .1 .found (c .before .loop .p) (omega arith)
 
 apply-requires : tie.Need-apply-requires Inv-loop μ-loop
 apply-requires c κs =
-    let turn = c .before .before .before .before .before .before in
-    let e = entry turn in
-    let p = turn .before .loop .p in
+    let i = turn (c .before .before) in
+    let e = entry (i .before) in
+    let p = i .before .loop .p in
     let l : p < e .args .s .rules = omega arith in (
-      rw (c .before .rule-symbols .ensures) (rule-room _ _ (e .pre .0) p _ (here turn) l _ _ _ (e .pre .2) (e .pre .3) (e .pre .4)),
-      rw (c .before .before .rule-left .ensures) (rule-left-few _ _ (e .pre .0) p _ (here turn) l),
-      turn .before .loop .inv .1 _ (e .pre .0) .long ∙ e .pre .5,
+      rw (c .before .rule-symbols .ensures) (rule-room _ _ (e .pre .0) p _ (here i) l _ _ _ (e .pre .2) (e .pre .3) (e .pre .4)),
+      rw (c .before .before .rule-left .ensures) (rule-left-few _ _ (e .pre .0) p _ (here i) l),
+      i .before .loop .inv .1 _ (e .pre .0) .long ∙ e .pre .5,
     )
-
-add-p : tie.Need-add-p Inv-loop μ-loop
-add-p c = omega arith
-
-loop-less : tie.Need-loop-less Inv-loop μ-loop
-loop-less c = omega arith
 
 -- the next turn, for the sections of the function's entry
 again : (c : tie.Joined1 Inv-loop μ-loop) →
-    let e = entry (c .before .before) in
+    let e = entry (c .before .before .before) in
     RulesBelow (grammarOf (now (e .args .g)) (e .args .s)) (now (e .args .masks)) (e .args .changed) (now (e .args .words)) (now (e .args .places)) (e .args .width) (c .before .before .before .loop .p + 1) (now (e .args .next)) (c .if1 .next)
 again c =
-    let e = entry (c .before .before) in
+    let e = entry (c .before .before .before) in
     let l = c .before .before .before .loop in
     let f = here (c .before .before) in
     let k : l .p < e .args .s .rules = omega arith in
@@ -93,11 +69,11 @@ again c =
     (c .if1 .came)
 
 loop-again : tie.Need-loop-again Inv-loop μ-loop
-loop-again c = (omega arith, λ s e. rw (sections-one _ s _ e (entry (c .before .before) .pre .0)) (again c))
+loop-again c = (omega arith, λ s e. rw (sections-one _ s _ e (entry (c .before .before .before) .pre .0)) (again c))
 
 returns : tie.Need-returns Inv-loop μ-loop
 returns c =
-    let e = c .before .before .before .before in
+    let e = entry (c .before) in
     rules-all _ _ (rw (rule-count _ _ (e .pre .0)) (c .loop-test .left)) (c .before .loop .inv .1 (e .args .s) (e .pre .0))
 
 pub apply-rules-spec : {M : Type 1} → statement M
@@ -107,15 +83,12 @@ apply-rules-spec =
     Inv-loop
     μ-loop
     loop-holds
-    mul-if1
-    element-copy-out-if1
-    mul-at
-    element-copy-out-at
-    rule-left-requires
-    cast-left
-    rule-symbols-requires
+    (λ c. omega (arith, few c))
+    few
+    (λ c. omega (arith, few (c .before .before))) (λ c. few (c .before .before))
+    (λ c κs. here (c .before .before .before) .stands)
+    (search needs) (λ c κs. here (turn c) .stands)
     apply-requires
-    add-p
-    loop-less
+    (search needs) (search needs)
     loop-again
     returns)

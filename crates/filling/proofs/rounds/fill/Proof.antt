@@ -22,118 +22,79 @@ abbrev μ-loop : tie.MeasureT-loop
 μ-loop g s line words₀ depths₀ categories width rows starts masks places next₀ changed₀ depth₀ words depths next changed depth =
     2049 - depth
 
--- the depths and the words are cleared, and the function's entry, from where the loop begins; and the loop, from where a round is committed
-abbrev deep : tie.After-insert Inv-loop μ-loop → tie.After-clear-depths Inv-loop μ-loop
-deep c = c .before .before .before .before .before .before .before
+-- the depths and the words are cleared, and the function's entry, from where the masks are made
+abbrev deep : tie.After-rule-masks Inv-loop μ-loop → tie.After-clear-depths Inv-loop μ-loop
+deep c = c .before .before .before .before .before
 
-abbrev cleared : tie.After-insert Inv-loop μ-loop → tie.After-clear-words Inv-loop μ-loop
+abbrev cleared : tie.After-rule-masks Inv-loop μ-loop → tie.After-clear-words Inv-loop μ-loop
 cleared c = deep c .before .before .before .before
 
-abbrev origin : tie.After-insert Inv-loop μ-loop → tie.Start Inv-loop μ-loop
+abbrev origin : tie.After-rule-masks Inv-loop μ-loop → tie.Start Inv-loop μ-loop
 origin c = cleared c .before .before .before .before .before .before
 
+-- the turn, from where a round is to be committed; and the round is committed, from where the next turn begins
 abbrev turn : tie.After-commit-arg2 Inv-loop μ-loop → tie.In-loop Inv-loop μ-loop
 turn c = c .before .before .before .before .before .before .before .before .before
 
-given : (c : tie.After-insert Inv-loop μ-loop) → Given (grammarOf (now (origin c .args .g)) (origin c .args .s)) (now (origin c .args .line))
+abbrev done : tie.After-slice-known6 Inv-loop μ-loop → tie.After-commit Inv-loop μ-loop
+done c = c .before .before .before .before
+
+given : (c : tie.After-rule-masks Inv-loop μ-loop) → Given (grammarOf (now (origin c .args .g)) (origin c .args .s)) (now (origin c .args .line))
 given c = let p = origin c .pre in record { limits = sections-within _ _ (p .0); proper = sections-proper _ _ (p .0); short = p .1 .short }
-
-add-width : tie.Need-add-width Inv-loop μ-loop
-add-width c = search needs
-
-mul-rows : tie.Need-mul-rows Inv-loop μ-loop
-mul-rows c = search needs
-
-clear-words-requires : tie.Need-clear-words-requires Inv-loop μ-loop
-clear-words-requires c κs = search needs
-
-mul-clear-depths : tie.Need-mul-clear-depths Inv-loop μ-loop
-mul-clear-depths c = search needs
-
-clear-depths-requires : tie.Need-clear-depths-requires Inv-loop μ-loop
-clear-depths-requires c κs = search needs
-
-rule-starts-of-requires : tie.Need-rule-starts-of-requires Inv-loop μ-loop
-rule-starts-of-requires c κs = search needs
-
-rule-masks-requires : tie.Need-rule-masks-requires Inv-loop μ-loop
-rule-masks-requires c κs = search needs
 
 class-places-requires : tie.Need-class-places-requires Inv-loop μ-loop
 class-places-requires c κs =
-    let p = c .before .before .before .before .before .before .before .before .before .before .before .before .before .before .before .pre in
+    let p = origin c .pre in
     record { short = p .1 .short; tokens = λ t l. le-trans (p .1 .tokens t l) (whole _ _ (p .0) .classes-high) }
 
-insert-requires : tie.Need-insert-requires Inv-loop μ-loop
-insert-requires c κs = search needs
-
 loop-holds : tie.Need-loop-holds Inv-loop μ-loop
-loop-holds c = (omega arith, start-done _ _ _ _ _ _ _ _ (category-count _ _ (origin c .pre .0)) (c .insert .ensures) (cleared c .clear-words .ensures) (deep c .clear-depths .ensures))
+loop-holds c = let m = c .before .before in (omega arith, start-done _ _ _ _ _ _ _ _ (category-count _ _ (origin m .pre .0)) (c .insert .ensures) (cleared m .clear-words .ensures) (deep m .clear-depths .ensures))
 
 -- the loop goes on at most 2048 times
 some : (c : tie.In-loop Inv-loop μ-loop) → 0 < c .before .loop .changed
 some c = omega (arith, c .loop-test .taken)
 
 few : (c : tie.In-loop Inv-loop μ-loop) → c .before .loop .depth ≤ 2048
-few c = rounds-few (given (c .before .before)) (some c) (c .before .loop .inv .1 .changes)
-
-add-depth : tie.Need-add-depth Inv-loop μ-loop
-add-depth c = omega (arith, few c)
-
-apply-rules-requires : tie.Need-apply-rules-requires Inv-loop μ-loop
-apply-rules-requires c κs = search needs
+few c = let begun = c .before .before in rounds-few (given (begun .before .before)) (some c) (c .before .loop .inv .1 .changes)
 
 -- the memory that the loop begins with has the room of the memory at entry
-room : (c : tie.After-insert Inv-loop μ-loop) → chartSize (origin c .args .s .categories) (length (now (origin c .args .line))) ≤ length (cleared c .clear-words .last .0)
+room : (c : tie.After-rule-masks Inv-loop μ-loop) → chartSize (origin c .args .s .categories) (length (now (origin c .args .line))) ≤ length (cleared c .clear-words .last .0)
 room c = let h = origin c .pre .2 in le-trans h (le-of-eq (sym (ap length (cleared c .clear-words .ensures) ∙ cleared-long _ _ h)))
 
-deep-room : (c : tie.After-insert Inv-loop μ-loop) → depthsSize (origin c .args .s .categories) (length (now (origin c .args .line))) ≤ length (deep c .clear-depths .last .0)
+deep-room : (c : tie.After-rule-masks Inv-loop μ-loop) → depthsSize (origin c .args .s .categories) (length (now (origin c .args .line))) ≤ length (deep c .clear-depths .last .0)
 deep-room c = let h = origin c .pre .3 in le-trans h (le-of-eq (sym (ap length (deep c .clear-depths .ensures) ∙ cleared-long _ _ h)))
 
 commit-requires : tie.Need-commit-requires Inv-loop μ-loop
 commit-requires c κs =
     let l = turn c .before .loop in
     let begun = turn c .before .before in
-    let p = origin begun .pre in (
-      round-ready (given begun) (l .depth) (l .changed) _ _ (l .words) (l .next) (l .depths) _ _ _ (l .inv .1) (begun .before .before .rule-masks .ensures) (begun .before .class-places .ensures)
-          (c .before .before .before .apply-rules .ensures) _ (category-count _ _ (p .0)) (room begun) (deep-room begun),
+    let m = begun .before .before in
+    let p = origin m .pre in (
+      round-ready (given m) (l .depth) (l .changed) _ _ (l .words) (l .next) (l .depths) _ _ _ (l .inv .1) (m .rule-masks .ensures) (begun .before .class-places .ensures)
+          (c .before .before .before .apply-rules .ensures) _ (category-count _ _ (p .0)) (room m) (deep-room m),
       whole _ _ (p .0) .categories-high,
       omega (arith, p .1 .short),
     )
 
-loop-less : tie.Need-loop-less Inv-loop μ-loop
-loop-less c = let ready = c .before .before .before .before .before in omega (arith, few (turn ready))
-
 loop-again : tie.Need-loop-again Inv-loop μ-loop
 loop-again c =
-    let done = c .before .before .before .before in
-    let ready = done .before in
+    let ready = done c .before in
     let l = turn ready .before .loop in
-    let begun = turn ready .before .before in (
+    let begun = turn ready .before .before in
+    let m = begun .before .before in (
       omega (arith, few (turn ready)),
-      round-done (given begun) (l .depth) (l .changed) _ _ (l .words) (l .next) (l .depths) _ _ _ (l .inv .1) (begun .before .before .rule-masks .ensures) (begun .before .class-places .ensures)
-          (ready .before .before .before .apply-rules .ensures) _ _ _ _ (category-count _ _ (origin begun .pre .0)) (some (turn ready)) (done .commit .ensures),
+      round-done (given m) (l .depth) (l .changed) _ _ (l .words) (l .next) (l .depths) _ _ _ (l .inv .1) (m .rule-masks .ensures) (begun .before .class-places .ensures)
+          (ready .before .before .before .apply-rules .ensures) _ _ _ _ (category-count _ _ (origin m .pre .0)) (some (turn ready)) (done c .commit .ensures),
     )
-
-cast-result : tie.Need-cast-result Inv-loop μ-loop
-cast-result c = omega arith
-
-sub-result : tie.Need-sub-result Inv-loop μ-loop
-sub-result c = some-round (c .loop-test .left) (c .before .loop .inv .1 .changes)
-
-same-length : tie.Need-same-length Inv-loop μ-loop
-same-length c = search needs
-
-same-length-2 : tie.Need-same-length-2 Inv-loop μ-loop
-same-length-2 c = search needs
 
 returns : tie.Need-returns Inv-loop μ-loop
 returns c =
     let l = c .before .loop in
     let begun = c .before .before in
-    let p = origin begun .pre in
-    filled-cleared _ _ (begun .insert .result) _ _ _ _ _ (category-count _ _ (p .0)) (begun .insert .ensures) (cleared begun .clear-words .ensures) (deep begun .clear-depths .ensures) _ _ (p .2) (p .3)
-    (rounds-filled (given begun) (l .depth) (l .changed) _ _ (l .words) (l .next) (l .depths) (c .loop-test .left) (l .inv .1))
+    let m = begun .before .before in
+    let p = origin m .pre in
+    filled-cleared _ _ (begun .insert .result) _ _ _ _ _ (category-count _ _ (p .0)) (begun .insert .ensures) (cleared m .clear-words .ensures) (deep m .clear-depths .ensures) _ _ (p .2) (p .3)
+    (rounds-filled (given m) (l .depth) (l .changed) _ _ (l .words) (l .next) (l .depths) (c .loop-test .left) (l .inv .1))
 
 pub fill-spec : {M : Type 1} → statement M
 fill-spec =
@@ -141,23 +102,16 @@ fill-spec =
     (tie.spec
     Inv-loop
     μ-loop
-    add-width
-    mul-rows
-    clear-words-requires
-    mul-clear-depths
-    clear-depths-requires
-    rule-starts-of-requires
-    rule-masks-requires
+    (search needs) (search needs) (search needs) (search needs) (search needs) (λ c κs. search needs)
+    (λ c κs. search needs)
     class-places-requires
-    insert-requires
+    (search needs)
     loop-holds
-    add-depth
-    apply-rules-requires
+    (λ c. omega (arith, few c)) (λ c κs. search needs)
     commit-requires
-    loop-less
+    (λ c. omega (arith, few (turn (done c .before))))
     loop-again
-    cast-result
-    sub-result
-    same-length
-    same-length-2
+    (search needs)
+    (λ c. some-round (c .loop-test .left) (c .before .loop .inv .1 .changes))
+    (search needs) (search needs)
     returns)

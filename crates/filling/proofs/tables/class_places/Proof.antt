@@ -22,33 +22,6 @@ loop-holds c = (omega arith, places-none _)
 token : (c : tie.In-loop Inv-loop μ-loop) → getD (now (c .before .before .before .args .line)) (c .before .loop .m) 0 < 128
 token c = c .before .before .before .pre .tokens (c .before .loop .m) (omega arith)
 
-shared-slice-read-class : tie.Need-shared-slice-read-class Inv-loop μ-loop
-shared-slice-read-class c = search needs
-
-cast-class : tie.Need-cast-class Inv-loop μ-loop
-cast-class c = omega (arith, token (c .before))
-
-mul-insert : tie.Need-mul-insert Inv-loop μ-loop
-mul-insert c = omega (arith, token (c .before))
-
-array-read-insert : tie.Need-array-read-insert Inv-loop μ-loop
-array-read-insert c = token (c .before)
-
-insert-requires : tie.Need-insert-requires Inv-loop μ-loop
-insert-requires c κs = search needs
-
-mul-places : tie.Need-mul-places Inv-loop μ-loop
-mul-places c = omega (arith, token (c .before .before))
-
-array-write-places : tie.Need-array-write-places Inv-loop μ-loop
-array-write-places c = token (c .before .before)
-
-add-m : tie.Need-add-m Inv-loop μ-loop
-add-m c = search needs
-
-loop-less : tie.Need-loop-less Inv-loop μ-loop
-loop-less c = search needs
-
 loop-again : tie.Need-loop-again Inv-loop μ-loop
 loop-again c =
     let l = c .before .before .before .loop in
@@ -66,14 +39,9 @@ class-places-spec =
     Inv-loop
     μ-loop
     loop-holds
-    shared-slice-read-class
-    cast-class
-    mul-insert
-    array-read-insert
-    insert-requires
-    mul-places
-    array-write-places
-    add-m
-    loop-less
+    (search needs) (λ c. omega (arith, token (c .before))) (λ c. omega (arith, token (c .before)))
+    (λ c. token (c .before)) (search needs)
+    (λ c. omega (arith, token (c .before .before)))
+    (λ c. token (c .before .before)) (search needs) (search needs)
     loop-again
     returns)

@@ -24,21 +24,6 @@ loop-holds c = (omega arith, mask-none _)
 symbol : (c : tie.In-loop Inv-loop μ-loop) → getD (now (c .before .before .before .args .symbols)) (c .before .loop .d) 0 < 160
 symbol c = c .before .before .before .pre (c .before .loop .d) (omega arith)
 
-shared-slice-read-symbol : tie.Need-shared-slice-read-symbol Inv-loop μ-loop
-shared-slice-read-symbol c = search needs
-
-cast-symbol : tie.Need-cast-symbol Inv-loop μ-loop
-cast-symbol c = omega (arith, symbol (c .before))
-
-insert-requires : tie.Need-insert-requires Inv-loop μ-loop
-insert-requires c κs = omega (arith, symbol (c .before .before))
-
-add-d : tie.Need-add-d Inv-loop μ-loop
-add-d c = search needs
-
-loop-less : tie.Need-loop-less Inv-loop μ-loop
-loop-less c = search needs
-
 loop-again : tie.Need-loop-again Inv-loop μ-loop
 loop-again c =
     let l = c .before .before .before .loop in (
@@ -51,14 +36,11 @@ loop-again c =
 all : (c : tie.After-loop Inv-loop μ-loop) → let symbols = now (c .before .before .before .args .symbols) in MaskBelow symbols (length symbols) (c .before .loop .mask)
 all c = let e : c .before .loop .d ≡ length (now (c .before .before .before .args .symbols)) = omega arith in rw e at (c .before .loop .inv .1)
 
-insert-requires-2 : tie.Need-insert-requires-2 Inv-loop μ-loop
-insert-requires-2 c κs = search needs
-
 returns : tie.Need-returns Inv-loop μ-loop
 returns c = mask-empty _ _ (rw (c .before .if2 .taken) at (all (c .before .before))) (c .insert2 .ensures)
 
 returns-2 : tie.Need-returns-2 Inv-loop μ-loop
-returns-2 c = let start = c .before .before .before .before in mask-some _ _ (start .pre) (pos-of-ne-zero (c .if2 .left)) (all (c .before))
+returns-2 c = let after = c .before in mask-some _ _ (after .before .before .before .pre) (pos-of-ne-zero (c .if2 .left)) (all after)
 
 pub mask-of-spec : {M : Type 1} → statement M
 mask-of-spec =
@@ -67,12 +49,10 @@ mask-of-spec =
     Inv-loop
     μ-loop
     loop-holds
-    shared-slice-read-symbol
-    cast-symbol
-    insert-requires
-    add-d
-    loop-less
+    (search needs) (λ c. omega (arith, symbol (c .before)))
+    (λ c κs. omega (arith, symbol (c .before .before)))
+    (search needs) (search needs)
     loop-again
-    insert-requires-2
+    (search needs)
     returns
     returns-2)

@@ -31,32 +31,11 @@ here :
     Found (now (c .before .before .before .args .g)) (c .before .before .before .args .s) (c .before .loop .p) (getD (now (c .before .before .before .args .starts)) (c .before .loop .p) 0)
 here c = c .before .before .before .pre .1 .found (c .before .loop .p) (omega arith)
 
-mul-at : tie.Need-mul-at Inv-loop μ-loop
-mul-at c = omega (arith, few c)
-
-element-copy-out-at : tie.Need-element-copy-out-at Inv-loop μ-loop
-element-copy-out-at c = few c
-
-rule-symbols-requires : tie.Need-rule-symbols-requires Inv-loop μ-loop
-rule-symbols-requires c κs = here (c .before) .stands
-
 mask-of-requires : tie.Need-mask-of-requires Inv-loop μ-loop
 mask-of-requires c κs =
     let turn = c .before .before in
     let e = c .rule-symbols .ensures ∙ ap (λ (r : Rule). r .right) (here turn .is) in
     rw e (symbol-below _ _ (turn .before .before .before .pre .0) (turn .before .loop .p) (omega arith))
-
-mul-masks : tie.Need-mul-masks Inv-loop μ-loop
-mul-masks c = omega (arith, few (c .before .before .before))
-
-array-write-masks : tie.Need-array-write-masks Inv-loop μ-loop
-array-write-masks c = few (c .before .before .before)
-
-add-p : tie.Need-add-p Inv-loop μ-loop
-add-p c = omega (arith, few (c .before .before .before))
-
-loop-less : tie.Need-loop-less Inv-loop μ-loop
-loop-less c = omega arith
 
 loop-again : tie.Need-loop-again Inv-loop μ-loop
 loop-again c =
@@ -82,13 +61,13 @@ rule-masks-spec =
     Inv-loop
     μ-loop
     loop-holds
-    mul-at
-    element-copy-out-at
-    rule-symbols-requires
+    (λ c. omega (arith, few c))
+    few
+    (λ c κs. here (c .before) .stands)
     mask-of-requires
-    mul-masks
-    array-write-masks
-    add-p
-    loop-less
+    (λ c. omega (arith, few (c .before .before .before)))
+    (λ c. few (c .before .before .before))
+    (λ c. omega (arith, few (c .before .before .before)))
+    (λ c. omega arith)
     loop-again
     returns)

@@ -24,14 +24,8 @@ abbrev μ-loop : tie.MeasureT-loop
 abbrev entry : tie.At-loop Inv-loop μ-loop → tie.Start Inv-loop μ-loop
 entry c = c .before .before .before .before
 
-add-width : tie.Need-add-width Inv-loop μ-loop
-add-width c = search needs
-
 loop-holds : tie.Need-loop-holds Inv-loop μ-loop
 loop-holds c = (search needs, sym (total-none _))
-
-count-start-requires : tie.Need-count-start-requires Inv-loop μ-loop
-count-start-requires c κs = search needs
 
 add-records : tie.Need-add-records Inv-loop μ-loop
 add-records c =
@@ -42,12 +36,6 @@ add-records c =
     let few = place-le (grammarGiven (now (a .g))) (now (a .line)) (e .pre .0 .isLine .short) (standing (now (a .g)) (a .at) .right) (a .d) in
     let more = total-next (startCount (grammarGiven (now (a .g))) (now (a .line)) (standing (now (a .g)) (a .at) .right) (a .d)) (l .start) in
     omega (arith, c .count-start .ensures, l .inv .1, more, few (l .start + 1) (omega (arith, c .before .loop-test .taken)))
-
-add-start : tie.Need-add-start Inv-loop μ-loop
-add-start c = search needs
-
-loop-less : tie.Need-loop-less Inv-loop μ-loop
-loop-less c = search needs
 
 loop-again : tie.Need-loop-again Inv-loop μ-loop
 loop-again c =
@@ -69,11 +57,10 @@ count-place-spec =
     (tie.spec
     Inv-loop
     μ-loop
-    add-width
+    (search needs)
     loop-holds
-    count-start-requires
+    (λ c κs. search needs)
     add-records
-    add-start
-    loop-less
+    (search needs) (search needs)
     loop-again
     returns)

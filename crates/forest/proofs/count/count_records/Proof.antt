@@ -30,25 +30,25 @@ Inv-loop g line words rules at₀ records₀ p₀ at records p = (p ≤ rules) �
 abbrev μ-loop : tie.MeasureT-loop
 μ-loop g line words rules at₀ records₀ p₀ at records p = rules - p
 
-abbrev entry : tie.In-loop Inv-loop μ-loop → tie.Start Inv-loop μ-loop
-entry c = c .before .before .before .before .before
+abbrev entry : tie.At-loop Inv-loop μ-loop → tie.Start Inv-loop μ-loop
+entry c = c .before .before .before .before
 
 -- rule p stands here
-here : (c : tie.In-loop Inv-loop μ-loop) → RuleStands (now (entry c .args .g)) (c .before .loop .p) (c .before .loop .at)
+here : (c : tie.In-loop Inv-loop μ-loop) → RuleStands (now (entry (c .before) .args .g)) (c .before .loop .p) (c .before .loop .at)
 here c =
-    let e = entry c in
+    let e = entry (c .before) in
     let l = c .before .loop in
     rule-found _ _ _ (e .pre .0) (l .p) (l .at) (omega (arith, c .loop-test .taken, ap (λ (s : Sections). s .rules) (e .pre .1))) (l .inv .1 ∙ ap (λ (s : Sections). startOf (now (e .args .g)) (l .p) (s .first)) (e .pre .1))
 
 -- and its records are counted
-counted : (c : tie.After-count-rule Inv-loop μ-loop) → c .count-rule .result ≡ ruleTotal (now (entry (c .before) .args .g)) (now (entry (c .before) .args .line)) (c .before .before .loop .p)
+counted : (c : tie.After-count-rule Inv-loop μ-loop) → c .count-rule .result ≡ ruleTotal (now (entry (c .before .before) .args .g)) (now (entry (c .before .before) .args .line)) (c .before .before .loop .p)
 counted c =
-    let a = entry (c .before) .args in
+    let a = entry (c .before .before) .args in
     c .count-rule .ensures ∙ ap (λ (r : Rule). ruleCount (grammarGiven (now (a .g))) (now (a .line)) (r .right)) (here (c .before) .found .is)
 
-few : (c : tie.In-loop Inv-loop μ-loop) → total (ruleTotal (now (entry c .args .g)) (now (entry c .args .line))) (c .before .loop .p + 1) ≤ 268435456
+few : (c : tie.In-loop Inv-loop μ-loop) → total (ruleTotal (now (entry (c .before) .args .g)) (now (entry (c .before) .args .line))) (c .before .loop .p + 1) ≤ 268435456
 few c =
-    let e = entry c in
+    let e = entry (c .before) in
     let g = now (e .args .g) in
     let chart = e .pre .0 in
     let last = here c .below in
@@ -58,29 +58,17 @@ few c =
 loop-holds : tie.Need-loop-holds Inv-loop μ-loop
 loop-holds c = (search needs, sym (start-none _ _), sym (total-none _))
 
-count-rule-requires : tie.Need-count-rule-requires Inv-loop μ-loop
-count-rule-requires c κs = (entry c .pre .0, (c .before .loop .p, here c))
-
 add-records : tie.Need-add-records Inv-loop μ-loop
 add-records c =
     let i = c .before in
-    let e = entry i in
+    let e = entry (i .before) in
     let l = i .before .loop in
     omega (arith, counted c, l .inv .2, total-next (ruleTotal (now (e .args .g)) (now (e .args .line))) (l .p), few i)
-
-rule-after-requires : tie.Need-rule-after-requires Inv-loop μ-loop
-rule-after-requires c κs = here (c .before) .found .stands
-
-add-p : tie.Need-add-p Inv-loop μ-loop
-add-p c = search needs
-
-loop-less : tie.Need-loop-less Inv-loop μ-loop
-loop-less c = search needs
 
 loop-again : tie.Need-loop-again Inv-loop μ-loop
 loop-again c =
     let i = c .before .before in
-    let a = entry i .args in
+    let a = entry (i .before) .args in
     let l = i .before .loop in (
       search needs,
       c .rule-after .ensures ∙ ap (after (now (a .g))) (l .inv .1) ∙ sym (start-more _ (l .p) _),
@@ -90,7 +78,7 @@ loop-again c =
 returns : tie.Need-returns Inv-loop μ-loop
 returns c =
     let l = c .before .loop in
-    let start = c .before .before .before .before .before in
+    let start = entry (c .before) in
     let same : l .p ≡ length (grammarGiven (now (start .args .g)) .rules) = omega (arith, l .inv .0, c .loop-test .left, ap (λ (s : Sections). s .rules) (start .pre .1), rules-all _ _ _ (start .pre .0)) in
     rw same at (l .inv .2) ∙ sym (forest-counted _ _)
 
@@ -101,10 +89,8 @@ count-records-spec =
     Inv-loop
     μ-loop
     loop-holds
-    count-rule-requires
+    (λ c κs. (entry (c .before) .pre .0, (c .before .loop .p, here c)))
     add-records
-    rule-after-requires
-    add-p
-    loop-less
+    (λ c κs. here (c .before) .found .stands) (search needs) (search needs)
     loop-again
     returns)

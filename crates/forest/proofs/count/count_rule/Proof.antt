@@ -24,9 +24,6 @@ abbrev μ-loop : tie.MeasureT-loop
 abbrev entry : tie.At-loop Inv-loop μ-loop → tie.Start Inv-loop μ-loop
 entry c = c .before .before .before .before .before
 
-rule-length-requires : tie.Need-rule-length-requires Inv-loop μ-loop
-rule-length-requires c κs = c .before .before .before .pre .1 .1 .found .stands
-
 loop-holds : tie.Need-loop-holds Inv-loop μ-loop
 loop-holds c = (search needs, sym (total-none _))
 
@@ -42,12 +39,6 @@ add-records c =
     let symbols = standing (now (a .g)) (a .at) .right in
     let few = rule-le (grammarGiven (now (a .g))) (now (a .line)) symbols (e .pre .0 .isLine .short) (l .d + 1) (omega (arith, c .before .loop-test .taken, turn .before .rule-length .ensures .1)) in
     omega (arith, c .count-place .ensures, l .inv .1, total-next (placeCount (grammarGiven (now (a .g))) (now (a .line)) symbols) (l .d), few)
-
-add-d : tie.Need-add-d Inv-loop μ-loop
-add-d c = search needs
-
-loop-less : tie.Need-loop-less Inv-loop μ-loop
-loop-less c = search needs
 
 loop-again : tie.Need-loop-again Inv-loop μ-loop
 loop-again c =
@@ -69,11 +60,10 @@ count-rule-spec =
     (tie.spec
     Inv-loop
     μ-loop
-    rule-length-requires
+    (λ c κs. c .before .before .before .pre .1 .1 .found .stands)
     loop-holds
     count-place-requires
     add-records
-    add-d
-    loop-less
+    (search needs) (search needs)
     loop-again
     returns)

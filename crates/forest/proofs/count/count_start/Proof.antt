@@ -28,9 +28,6 @@ abbrev μ-loop : tie.MeasureT-loop
 abbrev entry : tie.At-loop Inv-loop μ-loop → tie.Start Inv-loop μ-loop
 entry c = c .before .before .before .before .before
 
-add-width : tie.Need-add-width Inv-loop μ-loop
-add-width c = search needs
-
 prefix-ends-requires : tie.Need-prefix-ends-requires Inv-loop μ-loop
 prefix-ends-requires c κs = let e = c .before .before .before in (e .pre .0, e .pre .1, omega (arith, e .pre .2), e .pre .3)
 
@@ -43,24 +40,13 @@ member-requires c κs = let e = entry (c .before) in omega (arith, c .loop-test 
 symbol-ends-requires : tie.Need-symbol-ends-requires Inv-loop μ-loop
 symbol-ends-requires c κs = let e = entry (c .before .before .before) in (e .pre .0, e .pre .1, e .pre .2, omega (arith, c .before .before .loop-test .taken))
 
-count-requires : tie.Need-count-requires Inv-loop μ-loop
-count-requires c κs = search needs
-
-cast-records : tie.Need-cast-records Inv-loop μ-loop
-cast-records c = search needs
-
 add-records : tie.Need-add-records Inv-loop μ-loop
 add-records c =
-    let i = c .before .before .before .before in
+    let s = c .before in
+    let i = s .before .before .before in
     let e = entry (i .before) in
     let l = i .before .loop in
-    omega (arith, count-le 64 (c .before .symbol-ends .result), c .count .ensures, l .inv .1, start-le (grammarGiven (now (e .args .g))) (now (e .args .line)) (e .pre .0 .isLine .short) (standing (now (e .args .g)) (e .args .at) .right) (e .args .d) (e .args .start) (l .m) (omega (arith, i .loop-test .taken)))
-
-add-m : tie.Need-add-m Inv-loop μ-loop
-add-m c = search needs
-
-loop-less : tie.Need-loop-less Inv-loop μ-loop
-loop-less c = search needs
+    omega (arith, count-le 64 (s .symbol-ends .result), c .count .ensures, l .inv .1, start-le (grammarGiven (now (e .args .g))) (now (e .args .line)) (e .pre .0 .isLine .short) (standing (now (e .args .g)) (e .args .at) .right) (e .args .d) (e .args .start) (l .m) (omega (arith, i .loop-test .taken)))
 
 loop-again : tie.Need-loop-again Inv-loop μ-loop
 loop-again c =
@@ -94,15 +80,13 @@ count-start-spec =
     (tie.spec
     Inv-loop
     μ-loop
-    add-width
+    (search needs)
     prefix-ends-requires
     loop-holds
     member-requires
     symbol-ends-requires
-    count-requires
-    cast-records
+    (search needs) (search needs)
     add-records
-    add-m
-    loop-less
+    (search needs) (search needs)
     loop-again
     returns)

@@ -14,37 +14,31 @@ Inv-loop g at d line words start ends₀ k₀ ends k = (k ≤ d) × PrefixEnds g
 abbrev μ-loop : tie.MeasureT-loop
 μ-loop g at d line words start ends₀ k₀ ends k = d - k
 
--- the function's entry, from the loop
-abbrev entry : tie.At-loop Inv-loop μ-loop → tie.Start Inv-loop μ-loop
-entry c = c .before .before .before .before .before
+-- the function's entry
+abbrev entry : tie.After-insert Inv-loop μ-loop → tie.Start Inv-loop μ-loop
+entry c = c .before .before .before .before
 
 insert-requires : tie.Need-insert-requires Inv-loop μ-loop
 insert-requires c κs = let e = c .before .before .before in omega (arith, e .pre .3, e .pre .0 .isLine .short)
 
 loop-holds : tie.Need-loop-holds Inv-loop μ-loop
-loop-holds c = let start = c .before .before .before .before in (search needs, prefix-none _ _ (start .args .at) _ (c .insert .result) (start .pre .3) (c .insert .ensures))
+loop-holds c = let start = entry c in (search needs, prefix-none _ _ (start .args .at) _ (c .insert .result) (start .pre .3) (c .insert .ensures))
 
 step-ends-requires : tie.Need-step-ends-requires Inv-loop μ-loop
 step-ends-requires c κs =
     let l = c .before in
-    let p = entry l .pre in
+    let p = entry (l .before) .pre in
     (p .0, p .1, omega (arith, c .loop-test .taken, p .2), prefix-inside _ _ _ _ (l .loop .k) _ (l .loop .inv .1))
-
-add-k : tie.Need-add-k Inv-loop μ-loop
-add-k c = search needs
-
-loop-less : tie.Need-loop-less Inv-loop μ-loop
-loop-less c = search needs
 
 loop-again : tie.Need-loop-again Inv-loop μ-loop
 loop-again c =
     let l = c .before .before in
-    (search needs, prefix-more _ _ _ _ (l .loop .k) _ _ (omega (arith, c .before .loop-test .taken, entry l .pre .2)) (l .loop .inv .1) (c .step-ends .ensures))
+    (search needs, prefix-more _ _ _ _ (l .loop .k) _ _ (omega (arith, c .before .loop-test .taken, entry (l .before) .pre .2)) (l .loop .inv .1) (c .step-ends .ensures))
 
 returns : tie.Need-returns Inv-loop μ-loop
 returns c =
     let l = c .before in
-    let same : l .loop .k ≡ entry l .args .d = omega (arith, l .loop .inv .0, c .loop-test .left) in
+    let same : l .loop .k ≡ entry (l .before) .args .d = omega (arith, l .loop .inv .0, c .loop-test .left) in
     rw same at (l .loop .inv .1)
 
 pub prefix-ends-spec : {M : Type 1} → statement M
@@ -56,7 +50,6 @@ prefix-ends-spec =
     insert-requires
     loop-holds
     step-ends-requires
-    add-k
-    loop-less
+    (search needs) (search needs)
     loop-again
     returns)

@@ -19,23 +19,8 @@ abbrev μ-loop : tie.MeasureT-loop
 abbrev entry : tie.At-loop Inv-loop μ-loop → tie.Start Inv-loop μ-loop
 entry c = c .before .before .before .before
 
-add-width : tie.Need-add-width Inv-loop μ-loop
-add-width c = search needs
-
 loop-holds : tie.Need-loop-holds Inv-loop μ-loop
 loop-holds c = (search needs, step-none _ _ _ _ _)
-
-member-requires : tie.Need-member-requires Inv-loop μ-loop
-member-requires c κs = search needs
-
-symbol-ends-requires : tie.Need-symbol-ends-requires Inv-loop μ-loop
-symbol-ends-requires c κs = search needs
-
-add-m : tie.Need-add-m Inv-loop μ-loop
-add-m c = search needs
-
-loop-less : tie.Need-loop-less Inv-loop μ-loop
-loop-less c = search needs
 
 loop-again : tie.Need-loop-again Inv-loop μ-loop
 loop-again c =
@@ -58,11 +43,10 @@ step-ends-spec =
     (tie.spec
     Inv-loop
     μ-loop
-    add-width
+    (search needs)
     loop-holds
-    member-requires
-    symbol-ends-requires
-    add-m
-    loop-less
+    (search needs)
+    (λ c κs. search needs)
+    (search needs) (search needs)
     loop-again
     returns)

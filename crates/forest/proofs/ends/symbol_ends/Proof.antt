@@ -29,27 +29,6 @@ small c = omega (arith, c .if1 .left, symbol-is (c .before))
 few : (c : tie.Then1) → let a = entry (c .before) .args in (getD (now (c .before .before .rule-symbols .result)) (a .d) 0 - 128) * (length (now (a .line)) + 1) + a .m < 2048
 few c = let e = entry (c .before) in rw (symbol-is (c .before)) (in-few _ _ _ (e .pre .0) _ (e .pre .1) _ _ (e .pre .2) (e .pre .3) (big c))
 
-rule-symbols-requires : tie.Need-rule-symbols-requires
-rule-symbols-requires c κs = c .before .before .before .pre .1 .1 .found .stands
-
-shared-slice-read-symbol : tie.Need-shared-slice-read-symbol
-shared-slice-read-symbol c = rw (c .before .rule-symbols .ensures) (entry c .pre .2)
-
-cast-symbol : tie.Need-cast-symbol
-cast-symbol c = omega (arith, c .shared-slice-known4 .given (entry c .args .d))
-
-add-result : tie.Need-add-result
-add-result c = search needs
-
-mul-result : tie.Need-mul-result
-mul-result c = omega (arith, few c)
-
-add-result-2 : tie.Need-add-result-2
-add-result-2 c = omega (arith, few c)
-
-mul-result-2 : tie.Need-mul-result-2
-mul-result-2 c = omega (arith, few c)
-
 shared-slice-read-result : tie.Need-shared-slice-read-result
 shared-slice-read-result c = let e = entry (c .before .before) in rw (symbol-is (c .before .before)) (in-words _ _ _ (e .pre .0) _ (e .pre .1) _ _ (e .pre .2) (e .pre .3) (big (c .before)))
 
@@ -59,9 +38,6 @@ returns c = let e = entry (c .before .before) in rw (symbol-is (c .before .befor
 returns-2 : tie.Need-returns-2
 returns-2 c = let e = entry (c .before .before) in ends-past _ _ _ (e .pre .0) _ (e .pre .1) _ _ (e .pre .2) (e .pre .3) (small (c .before)) (c .if2 .taken)
 
-shared-slice-read-if3 : tie.Need-shared-slice-read-if3
-shared-slice-read-if3 c = search needs
-
 cast-if3 : tie.Need-cast-if3
 cast-if3 c = omega (arith, c .shared-slice-known6 .given (entry (c .before .before .before) .args .m))
 
@@ -70,9 +46,6 @@ returns-3 c =
     let inside = c .before .before in
     let e = entry (inside .before .before) in
     ends-other _ _ _ (e .pre .0) _ (e .pre .1) _ _ (e .pre .2) (e .pre .3) (small (inside .before)) (λ q. c .if3 .taken (q ∙ sym (symbol-is (inside .before .before))))
-
-add-insert : tie.Need-add-insert
-add-insert c = search needs
 
 insert-requires : tie.Need-insert-requires
 insert-requires c κs = let inside = c .before .before in let e = entry (inside .before .before) in omega (arith, e .pre .3, e .pre .0 .isLine .short, inside .if2 .left)
@@ -87,19 +60,16 @@ pub symbol-ends-spec : {M : Type 1} → statement M
 symbol-ends-spec =
     tie.close
     (tie.spec
-    rule-symbols-requires
-    shared-slice-read-symbol
-    cast-symbol
-    add-result
-    mul-result
-    add-result-2
-    mul-result-2
+    (λ c κs. c .before .before .before .pre .1 .1 .found .stands)
+    (λ c. rw (c .before .rule-symbols .ensures) (entry c .pre .2))
+    (λ c. omega (arith, c .shared-slice-known4 .given (entry c .args .d)))
+    (search needs) (λ c. omega (arith, few c)) (λ c. omega (arith, few c)) (λ c. omega (arith, few c))
     shared-slice-read-result
     returns
     returns-2
-    shared-slice-read-if3
+    (search needs)
     cast-if3
     returns-3
-    add-insert
+    (search needs)
     insert-requires
     returns-4)

@@ -21,14 +21,8 @@ abbrev μ-loop : tie.MeasureT-loop
 abbrev entry : tie.In-loop Inv-loop μ-loop → tie.Start Inv-loop μ-loop
 entry c = c .before .before .before .before .before
 
-add-width : tie.Need-add-width Inv-loop μ-loop
-add-width c = search needs
-
 loop-holds : tie.Need-loop-holds Inv-loop μ-loop
 loop-holds c = (omega arith, search needs, λ m j a b. absurd (omega arith))
-
-member-requires : tie.Need-member-requires Inv-loop μ-loop
-member-requires c κs = let e = entry c in omega (arith, c .loop-test .taken, e .pre .0 .isLine .short)
 
 symbol-ends-requires : tie.Need-symbol-ends-requires Inv-loop μ-loop
 symbol-ends-requires c κs = let e = entry (c .before .before) in (e .pre .0, e .pre .1, e .pre .2, omega (arith, c .before .before .loop-test .taken))
@@ -45,12 +39,6 @@ returns c =
       found = λ z. (omega (arith, i .loop-test .taken), member-true _ (l .m) (s .before .before .member .ensures) (s .before .if1 .taken));
       ends = λ z. s .symbol-ends .ensures;
     }
-
-add-m : tie.Need-add-m Inv-loop μ-loop
-add-m c = search needs
-
-loop-less : tie.Need-loop-less Inv-loop μ-loop
-loop-less c = search needs
 
 loop-again : tie.Need-loop-again Inv-loop μ-loop
 loop-again c =
@@ -85,12 +73,11 @@ seek-middle-spec =
     (tie.spec
     Inv-loop
     μ-loop
-    add-width
+    (search needs)
     loop-holds
-    member-requires
+    (λ c κs. let e = entry c in omega (arith, c .loop-test .taken, e .pre .0 .isLine .short))
     symbol-ends-requires
     returns
-    add-m
-    loop-less
+    (search needs) (search needs)
     loop-again
     returns-2)

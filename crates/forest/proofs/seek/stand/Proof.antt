@@ -17,33 +17,6 @@ small c =
     let n : c .first .result ≡ 64 → ⊥ = λ q. omega (arith, e .0 q, c .before .pre .4) in
     omega (arith, c .first .ensures .within)
 
-first-requires : tie.Need-first-requires
-first-requires c κs = search needs
-
-cast-end : tie.Need-cast-end
-cast-end c = search needs
-
-cast-t10 : tie.Need-cast-t10
-cast-t10 c = search needs
-
-add-t11 : tie.Need-add-t11
-add-t11 c = search needs
-
-cast-t12 : tie.Need-cast-t12
-cast-t12 c = search needs
-
-cast-t13 : tie.Need-cast-t13
-cast-t13 c = search needs
-
-cast-t14 : tie.Need-cast-t14
-cast-t14 c = search needs
-
-cast-t15 : tie.Need-cast-t15
-cast-t15 c = search needs
-
-shl-t18 : tie.Need-shl-t18
-shl-t18 c = small c
-
 sub-t19 : tie.Need-sub-t19
 sub-t19 c = rw (one-shifted (c .first .result) (small c)) (one-le _ _ (c .first .ensures .found (small c)))
 
@@ -63,14 +36,8 @@ pub stand-spec : {M : Type 1} → statement M
 stand-spec =
     tie.close
     (tie.spec
-    first-requires
-    cast-end
-    cast-t10
-    add-t11
-    cast-t12
-    cast-t13
-    cast-t14
-    cast-t15
-    shl-t18
+    (search needs) (search needs) (search needs) (search needs) (search needs) (search needs) (search needs)
+    (search needs)
+    small
     sub-t19
     returns)

@@ -18,12 +18,6 @@ Inv-loop out₀ at n end place₀ rest₀ out place rest =
 abbrev μ-loop : tie.MeasureT-loop
 μ-loop out₀ at n end place₀ rest₀ out place rest = rest
 
-digit-count-requires : tie.Need-digit-count-requires Inv-loop μ-loop
-digit-count-requires c κs = search needs
-
-add-end : tie.Need-add-end Inv-loop μ-loop
-add-end c = search needs
-
 sub-place : tie.Need-sub-place Inv-loop μ-loop
 sub-place c = omega (arith, c .digit-count .ensures, decimal-some (c .before .before .args .n))
 
@@ -33,22 +27,10 @@ loop-holds c =
     let some = decimal-some (c .before .before .args .n) in
     (omega (arith, count, some), omega (arith, count, some, c .before .before .pre), refl, refl)
 
-cast-out : tie.Need-cast-out Inv-loop μ-loop
-cast-out c = search needs
-
-add-out : tie.Need-add-out Inv-loop μ-loop
-add-out c = search needs
-
-slice-write-out : tie.Need-slice-write-out Inv-loop μ-loop
-slice-write-out c = let l = c .before .loop in omega (arith, l .inv .1, l .inv .2)
-
 sub-place-2 : tie.Need-sub-place-2 Inv-loop μ-loop
 sub-place-2 c =
     let l = c .before .loop in
     omega (arith, l .inv .0, decimal-length (l .rest) (c .loop-test .taken), decimal-some (l .rest / 10))
-
-loop-less : tie.Need-loop-less Inv-loop μ-loop
-loop-less c = omega arith
 
 loop-again : tie.Need-loop-again Inv-loop μ-loop
 loop-again c =
@@ -61,18 +43,6 @@ loop-again c =
       rw length-set (l .inv .2),
       wrote-more _ _ (l .rest) _ h (l .inv .0) (omega (arith, l .inv .1, l .inv .2)) ∙ l .inv .3,
     )
-
-cast-out-2 : tie.Need-cast-out-2 Inv-loop μ-loop
-cast-out-2 c = search needs
-
-add-out-2 : tie.Need-add-out-2 Inv-loop μ-loop
-add-out-2 c = search needs
-
-slice-write-out-2 : tie.Need-slice-write-out-2 Inv-loop μ-loop
-slice-write-out-2 c = let l = c .before .loop in omega (arith, l .inv .1, l .inv .2)
-
-same-length : tie.Need-same-length Inv-loop μ-loop
-same-length c = rw length-set (c .before .loop .inv .2)
 
 returns : tie.Need-returns Inv-loop μ-loop
 returns c =
@@ -88,18 +58,15 @@ write-decimal-spec =
     (tie.spec
     Inv-loop
     μ-loop
-    digit-count-requires
-    add-end
+    (search needs) (search needs)
     sub-place
     loop-holds
-    cast-out
-    add-out
-    slice-write-out
+    (search needs) (search needs)
+    (λ c. let l = c .before .loop in omega (arith, l .inv .1, l .inv .2))
     sub-place-2
-    loop-less
+    (search needs)
     loop-again
-    cast-out-2
-    add-out-2
-    slice-write-out-2
-    same-length
+    (search needs) (search needs)
+    (λ c. let l = c .before .loop in omega (arith, l .inv .1, l .inv .2))
+    (λ c. rw length-set (c .before .loop .inv .2))
     returns)

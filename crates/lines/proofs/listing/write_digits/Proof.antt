@@ -21,14 +21,8 @@ abbrev μ-loop : tie.MeasureT-loop
 loop-holds : tie.Need-loop-holds Inv-loop μ-loop
 loop-holds c = (omega arith, rw add-zero (stored-none _ _))
 
-shared-slice-read-out : tie.Need-shared-slice-read-out Inv-loop μ-loop
-shared-slice-read-out c = omega (arith, c .before .before .before .pre .0)
-
 add-out : tie.Need-add-out Inv-loop μ-loop
 add-out c = omega (arith, c .before .before .before .pre .2 (c .before .before .loop .t) (c .before .loop-test .taken))
-
-add-out-2 : tie.Need-add-out-2 Inv-loop μ-loop
-add-out-2 c = search needs
 
 slice-write-out : tie.Need-slice-write-out Inv-loop μ-loop
 slice-write-out c =
@@ -37,12 +31,6 @@ slice-write-out c =
     let long = stored-long (omega (arith, digits-long (c .before .before .before .args .marks .now) (l .t) (omega (arith, l .inv .0, pre .0)), l .inv .0, pre .1)) (l .inv .1) in
     omega (arith, long, pre .1, c .before .loop-test .taken)
 
-add-t : tie.Need-add-t Inv-loop μ-loop
-add-t c = search needs
-
-loop-less : tie.Need-loop-less Inv-loop μ-loop
-loop-less c = search needs
-
 loop-again : tie.Need-loop-again Inv-loop μ-loop
 loop-again c =
     let l = c .before .before .loop in
@@ -50,9 +38,6 @@ loop-again c =
     let marks = c .before .before .before .args .marks .now in
     let part = digits-long marks (l .t) (omega (arith, l .inv .0, pre .0)) in
     (omega arith, rw (digits-more marks (l .t) (omega (arith, pre .0, c .before .loop-test .taken)), ← add-assoc) (stored-more _ (omega (arith, part, pre .1, c .before .loop-test .taken)) (l .inv .1)))
-
-add-result : tie.Need-add-result Inv-loop μ-loop
-add-result c = search needs
 
 same-length : tie.Need-same-length Inv-loop μ-loop
 same-length c =
@@ -73,13 +58,12 @@ write-digits-spec =
     Inv-loop
     μ-loop
     loop-holds
-    shared-slice-read-out
+    (λ c. omega (arith, c .before .before .before .pre .0))
     add-out
-    add-out-2
+    (search needs)
     slice-write-out
-    add-t
-    loop-less
+    (search needs) (search needs)
     loop-again
-    add-result
+    (search needs)
     same-length
     returns)

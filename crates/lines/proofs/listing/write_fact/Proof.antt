@@ -7,37 +7,25 @@ use Rattle.lines.proofs.LineLaws.{four-few, depth-line}
 use Rattle.lines.proofs.listing.write_fact.Statement.{statement}
 use Rattle.lines.proofs.listing.write_fact.Tie as tie
 
+-- the function's entry, from where the line is to be written
+abbrev entry : tie.After-fields → tie.Start
+entry c = c .before .before .before .before .before
+
 returns : tie.Need-returns
 returns c = rw (c .if1 .taken) (stored-none _ _)
 
-slice-aggregate-write-line : tie.Need-slice-aggregate-write-line
-slice-aggregate-write-line c = search needs
-
-slice-aggregate-write-line-2 : tie.Need-slice-aggregate-write-line-2
-slice-aggregate-write-line-2 c = search needs
-
 write-line-requires : tie.Need-write-line-requires
 write-line-requires c κs =
-    let start = c .before .before .before .before .before in
+    let start = entry c in
     let p = start .pre in
     (omega arith, omega (arith, p .4, four-few 4 (start .args .category) (start .args .start) (start .args .end) (start .args .depth) (p .0) (p .1) (p .2) (p .3)))
-
-same-length : tie.Need-same-length
-same-length c = search needs
 
 returns-2 : tie.Need-returns-2
 unfolding text
 returns-2 c =
-    let a = c .before .before .before .before .before .before .before .before .args in
+    let a = entry (c .before .before .before) .args in
     rw (depth-line (a .category) (a .start) (a .end) (a .depth) (omega arith)) (c .before .before .write-line .ensures)
 
 pub write-fact-spec : {M : Type 1} → statement M
 write-fact-spec =
-    tie.close
-    (tie.spec
-    returns
-    slice-aggregate-write-line
-    slice-aggregate-write-line-2
-    write-line-requires
-    same-length
-    returns-2)
+    tie.close (tie.spec returns (search needs) (search needs) write-line-requires (search needs) returns-2)

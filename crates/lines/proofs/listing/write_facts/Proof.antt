@@ -25,27 +25,6 @@ few c k l = let a = c .before .before .args in fact-few (a .depths .now) (a .wid
 loop-holds : tie.Need-loop-holds Inv-loop μ-loop
 loop-holds c = let start = c .before .before in (omega arith, gather-none 29 _ (factLineAt (start .args .depths .now) (start .args .width)) (few c) (start .pre .3))
 
-div-row : tie.Need-div-row Inv-loop μ-loop
-div-row c = search needs
-
-mul-depth : tie.Need-mul-depth Inv-loop μ-loop
-mul-depth c = search needs
-
-shared-slice-read-depth : tie.Need-shared-slice-read-depth Inv-loop μ-loop
-shared-slice-read-depth c = search needs
-
-cast-depth : tie.Need-cast-depth Inv-loop μ-loop
-cast-depth c = omega (arith, c .shared-slice-known2 .given (c .before .before .loop .q))
-
-div-write-fact : tie.Need-div-write-fact Inv-loop μ-loop
-div-write-fact c = search needs
-
-rem-write-fact : tie.Need-rem-write-fact Inv-loop μ-loop
-rem-write-fact c = search needs
-
-rem-write-fact-2 : tie.Need-rem-write-fact-2 Inv-loop μ-loop
-rem-write-fact-2 c = search needs
-
 write-fact-requires : tie.Need-write-fact-requires Inv-loop μ-loop
 write-fact-requires c κs =
     let here = c .before .before .before in
@@ -60,15 +39,10 @@ write-fact-requires c κs =
       gather-room 29 _ (factLineAt (start .args .depths .now) w) (few (here .before)) (start .pre .3) (here .loop .inv .1) (c .before .before .loop-test .taken),
     )
 
-add-q : tie.Need-add-q Inv-loop μ-loop
-add-q c = search needs
-
-loop-less : tie.Need-loop-less Inv-loop μ-loop
-loop-less c = search needs
-
 loop-again : tie.Need-loop-again Inv-loop μ-loop
 loop-again c =
-    let here = c .before .before .before .before .before .before in
+    let call = c .before .before .before in
+    let here = call .before .before .before in
     let start = here .before .before .before in
     (omega arith, gather-more 29 _ (factLineAt (start .args .depths .now) (start .args .width)) (few (here .before)) (start .pre .3) (here .loop .inv .1) (omega arith) (c .before .before .write-fact .ensures))
 
@@ -92,16 +66,11 @@ write-facts-spec =
     Inv-loop
     μ-loop
     loop-holds
-    div-row
-    mul-depth
-    shared-slice-read-depth
-    cast-depth
-    div-write-fact
-    rem-write-fact
-    rem-write-fact-2
+    (search needs) (search needs) (search needs)
+    (λ c. omega (arith, c .shared-slice-known2 .given (c .before .before .loop .q)))
+    (search needs) (search needs) (search needs)
     write-fact-requires
-    add-q
-    loop-less
+    (search needs) (search needs)
     loop-again
     same-length
     returns)

@@ -12,52 +12,33 @@ use Rattle.lines.proofs.LineLaws.{marks-none, marks-parts}
 use Rattle.lines.proofs.listing.write_marks.Statement.{statement}
 use Rattle.lines.proofs.listing.write_marks.Tie as tie
 
--- the function's entry, from where the word is written; the word, from where the space after it is; and that, from where the digits are
+-- the function's entry, from where the word is written; the word, from where its end is known; and the space after it, from where the digits are written
 abbrev entry : tie.After-write-bytes → tie.Start
 entry c = c .before .before .before .before .before
 
-abbrev word : tie.After-write-byte2 → tie.After-write-bytes
-word c = c .before .before .before .before .before
+abbrev word : tie.After-slice-known2 → tie.After-write-bytes
+word c = c .before .before
 
 abbrev space : tie.After-write-digits → tie.After-write-byte2
 space c = c .before .before .before .before
 
-slice-aggregate-write-bytes : tie.Need-slice-aggregate-write-bytes
-slice-aggregate-write-bytes c = search needs
-
-write-bytes-requires : tie.Need-write-bytes-requires
-write-bytes-requires c κs = search needs
-
-write-byte-requires : tie.Need-write-byte-requires
-write-byte-requires c κs = search needs
-
-same-length : tie.Need-same-length
-same-length c = search needs
-
 returns : tie.Need-returns
 unfolding text
 returns c =
-    let begun = c .before .before .before .before .before .before .before in
+    let newline = c .before .before in
+    let begun = word (newline .before .before .before) in
     let e : entry begun .args .n ≡ 0 = omega arith in
-    rw (e, sym marks-none) (stored-then (omega arith) (begun .write-bytes .ensures) (c .before .before .write-byte .ensures))
-
-write-byte-requires-2 : tie.Need-write-byte-requires-2
-write-byte-requires-2 c κs = search needs
-
-write-digits-requires : tie.Need-write-digits-requires
-write-digits-requires c κs = search needs
+    rw (e, sym marks-none) (stored-then (omega arith) (begun .write-bytes .ensures) (newline .write-byte .ensures))
 
 write-byte-requires-3 : tie.Need-write-byte-requires-3
-write-byte-requires-3 c κs = let start = entry (word (space (c .before .before .before))) in omega (arith, digits-long (start .args .marks .now) (start .args .n) (start .pre .0))
-
-same-length-2 : tie.Need-same-length-2
-same-length-2 c = search needs
+write-byte-requires-3 c κs = let begun = word (space (c .before .before .before) .before .before .before) in let start = entry begun in omega (arith, digits-long (start .args .marks .now) (start .args .n) (start .pre .0))
 
 returns-2 : tie.Need-returns-2
 unfolding text
 returns-2 c =
-    let digits = c .before .before .before .before .before .before in
-    let begun = word (space digits) in
+    let call = c .before .before .before in
+    let digits = call .before .before .before in
+    let begun = word (space digits .before .before .before) in
     let a = entry begun .args in
     let count = digits-long (a .marks .now) (a .n) (entry begun .pre .0) in
     let some = length-take-le (a .n) (a .marks .now) (entry begun .pre .0) in
@@ -70,13 +51,10 @@ pub write-marks-spec : {M : Type 1} → statement M
 write-marks-spec =
     tie.close
     (tie.spec
-    slice-aggregate-write-bytes
-    write-bytes-requires
-    write-byte-requires
-    same-length
+    (search needs) (search needs) (search needs) (search needs)
     returns
-    write-byte-requires-2
-    write-digits-requires
+    (search needs)
+    (λ c κs. search needs)
     write-byte-requires-3
-    same-length-2
+    (search needs)
     returns-2)

@@ -29,47 +29,11 @@ few c k l = node-few (c .before .before .args .nodes .now) k (λ i. omega (arith
 loop-holds : tie.Need-loop-holds Inv-loop μ-loop
 loop-holds c = (omega arith, gather-none 21 _ (nodeLineAt (c .before .before .args .nodes .now)) (few c) (c .before .before .pre .1))
 
-mul-first : tie.Need-mul-first Inv-loop μ-loop
-mul-first c = search needs
-
-shared-slice-read-t12 : tie.Need-shared-slice-read-t12 Inv-loop μ-loop
-shared-slice-read-t12 c = search needs
-
-cast-t13 : tie.Need-cast-t13 Inv-loop μ-loop
-cast-t13 c = omega (arith, c .shared-slice-known2 .given (4 * c .before .before .loop .k))
-
-add-t14 : tie.Need-add-t14 Inv-loop μ-loop
-add-t14 c = search needs
-
-shared-slice-read-t16 : tie.Need-shared-slice-read-t16 Inv-loop μ-loop
-shared-slice-read-t16 c = search needs
-
 cast-t17 : tie.Need-cast-t17 Inv-loop μ-loop
 cast-t17 c = omega (arith, c .shared-slice-known3 .given (4 * c .before .before .before .loop .k + 1))
 
-add-t18 : tie.Need-add-t18 Inv-loop μ-loop
-add-t18 c = search needs
-
-shared-slice-read-t20 : tie.Need-shared-slice-read-t20 Inv-loop μ-loop
-shared-slice-read-t20 c = search needs
-
 cast-t21 : tie.Need-cast-t21 Inv-loop μ-loop
-cast-t21 c = let turn = c .before .before .before .before in omega (arith, c .shared-slice-known4 .given (4 * turn .loop .k + 2))
-
-add-t22 : tie.Need-add-t22 Inv-loop μ-loop
-add-t22 c = search needs
-
-shared-slice-read-t24 : tie.Need-shared-slice-read-t24 Inv-loop μ-loop
-shared-slice-read-t24 c = search needs
-
-cast-t25 : tie.Need-cast-t25 Inv-loop μ-loop
-cast-t25 c = omega (arith, c .shared-slice-known5 .given (4 * turn c .loop .k + 3))
-
-slice-aggregate-write-line : tie.Need-slice-aggregate-write-line Inv-loop μ-loop
-slice-aggregate-write-line c = search needs
-
-slice-aggregate-write-line-2 : tie.Need-slice-aggregate-write-line-2 Inv-loop μ-loop
-slice-aggregate-write-line-2 c = search needs
+cast-t21 c = let read = c .before in omega (arith, c .shared-slice-known4 .given (4 * read .before .before .before .loop .k + 2))
 
 write-line-requires : tie.Need-write-line-requires Inv-loop μ-loop
 unfolding numbered lineOf text
@@ -79,16 +43,11 @@ write-line-requires c κs =
     let room = gather-room 21 _ (nodeLineAt (start .args .nodes .now)) (few (here .before)) (start .pre .1) (here .loop .inv .1) (omega arith) in
     (omega arith, omega (arith, few (here .before) (here .loop .k) (omega arith), room))
 
-add-k : tie.Need-add-k Inv-loop μ-loop
-add-k c = search needs
-
-loop-less : tie.Need-loop-less Inv-loop μ-loop
-loop-less c = search needs
-
 loop-again : tie.Need-loop-again Inv-loop μ-loop
 unfolding numbered lineOf text
 loop-again c =
-    let here = turn (c .before .before .before .before .before .before) in
+    let call = c .before .before .before in
+    let here = turn (call .before .before .before) in
     let start = here .before .before .before in
     (omega arith, gather-more 21 _ (nodeLineAt (start .args .nodes .now)) (few (here .before)) (start .pre .1) (here .loop .inv .1) (omega arith) (c .before .before .write-line .ensures))
 
@@ -112,23 +71,17 @@ write-nodes-spec =
     Inv-loop
     μ-loop
     loop-holds
-    mul-first
-    shared-slice-read-t12
-    cast-t13
-    add-t14
-    shared-slice-read-t16
+    (search needs) (search needs)
+    (λ c. omega (arith, c .shared-slice-known2 .given (4 * c .before .before .loop .k)))
+    (search needs) (search needs)
     cast-t17
-    add-t18
-    shared-slice-read-t20
+    (search needs) (search needs)
     cast-t21
-    add-t22
-    shared-slice-read-t24
-    cast-t25
-    slice-aggregate-write-line
-    slice-aggregate-write-line-2
+    (search needs) (search needs)
+    (λ c. omega (arith, c .shared-slice-known5 .given (4 * turn c .loop .k + 3)))
+    (search needs) (search needs)
     write-line-requires
-    add-k
-    loop-less
+    (search needs) (search needs)
     loop-again
     same-length
     returns)

@@ -5,17 +5,8 @@ use borrow.Author.Needs.{needs}
 use Rattle.lines.proofs.writing.write_byte.Statement.{statement}
 use Rattle.lines.proofs.writing.write_byte.Tie as tie
 
-slice-write-out : tie.Need-slice-write-out
-slice-write-out c = search needs
-
-add-result : tie.Need-add-result
-add-result c = search needs
-
-same-length : tie.Need-same-length
-same-length c = search needs
-
 returns : tie.Need-returns
 returns c = stored-byte _ _ _ (omega (arith, c .pre))
 
 pub write-byte-spec : {M : Type 1} → statement M
-write-byte-spec = tie.close (tie.spec slice-write-out add-result same-length returns)
+write-byte-spec = tie.close (tie.spec (search needs) (search needs) (search needs) returns)

@@ -19,12 +19,6 @@ abbrev μ-loop : tie.MeasureT-loop
 loop-holds : tie.Need-loop-holds Inv-loop μ-loop
 loop-holds c = (omega arith, rw add-zero (stored-none _ _))
 
-shared-slice-read-out : tie.Need-shared-slice-read-out Inv-loop μ-loop
-shared-slice-read-out c = search needs
-
-add-out : tie.Need-add-out Inv-loop μ-loop
-add-out c = search needs
-
 slice-write-out : tie.Need-slice-write-out Inv-loop μ-loop
 slice-write-out c =
     let l = c .before .before .loop in
@@ -32,20 +26,11 @@ slice-write-out c =
     let long = stored-long (omega (arith, part, l .inv .0, c .before .before .before .pre)) (l .inv .1) in
     omega (arith, long, c .before .before .before .pre, c .before .loop-test .taken)
 
-add-i : tie.Need-add-i Inv-loop μ-loop
-add-i c = search needs
-
-loop-less : tie.Need-loop-less Inv-loop μ-loop
-loop-less c = search needs
-
 loop-again : tie.Need-loop-again Inv-loop μ-loop
 loop-again c =
     let l = c .before .before .loop in
     let part = length-take-le (l .i) (c .before .before .before .args .bytes .now) (l .inv .0) in
     (omega arith, rw (take-more (c .before .before .before .args .bytes .now) (l .i) (c .before .loop-test .taken), ← add-assoc) (stored-more _ (omega (arith, part, c .before .before .before .pre, c .before .loop-test .taken)) (l .inv .1)))
-
-add-result : tie.Need-add-result Inv-loop μ-loop
-add-result c = search needs
 
 same-length : tie.Need-same-length Inv-loop μ-loop
 same-length c =
@@ -63,12 +48,10 @@ write-bytes-spec =
     Inv-loop
     μ-loop
     loop-holds
-    shared-slice-read-out
-    add-out
+    (search needs) (search needs)
     slice-write-out
-    add-i
-    loop-less
+    (search needs) (search needs)
     loop-again
-    add-result
+    (search needs)
     same-length
     returns)

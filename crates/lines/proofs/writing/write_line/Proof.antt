@@ -12,34 +12,34 @@ use Rattle.lines.proofs.LineLaws.{line-long}
 use Rattle.lines.proofs.writing.write_line.Statement.{statement}
 use Rattle.lines.proofs.writing.write_line.Tie as tie
 
--- the function's entry, from where the word is to be written
+-- the function's entry, from where the word is to be written; and the word, from where the numbers are written
 abbrev entry : tie.After-write-bytes-arg → tie.Start
 entry c = c .before .before .before .before
+
+abbrev word : tie.After-write-numbers → tie.After-write-bytes
+word c = c .before .before .before .before
 
 -- the line has room
 room : (c : tie.After-write-bytes-arg) → let a = entry c .args in a .at + (length (now (a .word)) + (length (spaced (map decimal (now (a .numbers)))) + 1)) ≤ length (now (a .out))
 room c = let a = entry c .args in omega (arith, line-long (now (a .word)) (spaced (map decimal (now (a .numbers)))), entry c .pre .1)
 
-write-bytes-requires : tie.Need-write-bytes-requires
-write-bytes-requires c κs = omega (arith, room c)
-
 write-numbers-requires : tie.Need-write-numbers-requires
-write-numbers-requires c κs = let begun = c .before .before .before .before in (entry begun .pre .0, omega (arith, room begun))
-
-write-byte-requires : tie.Need-write-byte-requires
-write-byte-requires c κs = let begun = c .before .before .before .before .before .before .before .before in omega (arith, room begun)
-
-same-length : tie.Need-same-length
-same-length c = search needs
+write-numbers-requires c κs = let begun = c .before .before .before in (entry (begun .before) .pre .0, omega (arith, room (begun .before)))
 
 returns : tie.Need-returns
 returns c =
-    let numbers = c .before .before .before .before .before .before in
-    let word = numbers .before .before .before .before in
-    let all = length-append (spaced (map decimal (now (entry (word .before) .args .numbers)))) (10 ∷ []) in
-    stored-then (omega (arith, all, room (word .before))) (word .write-bytes .ensures) (stored-then (omega (arith, room (word .before))) (numbers .write-numbers .ensures) (c .before .before .write-byte .ensures))
+    let call = c .before .before .before in
+    let numbers = call .before .before .before in
+    let begun = word numbers in
+    let all = length-append (spaced (map decimal (now (entry (begun .before) .args .numbers)))) (10 ∷ []) in
+    stored-then (omega (arith, all, room (begun .before))) (begun .write-bytes .ensures) (stored-then (omega (arith, room (begun .before))) (numbers .write-numbers .ensures) (c .before .before .write-byte .ensures))
 
 pub write-line-spec : {M : Type 1} → statement M
 write-line-spec =
     tie.close
-    (tie.spec write-bytes-requires write-numbers-requires write-byte-requires same-length returns)
+    (tie.spec
+    (λ c κs. omega (arith, room c))
+    write-numbers-requires
+    (λ c κs. omega (arith, room (word (c .before .before .before) .before)))
+    (search needs)
+    returns)

@@ -18,12 +18,15 @@ Inv-loop out₀ at numbers place₀ i₀ out place i = (i ≤ length numbers) ×
 abbrev μ-loop : tie.MeasureT-loop
 μ-loop out₀ at numbers place₀ i₀ out place i = length numbers - i
 
--- the function's entry, from the loop; and the loop, from where the space is written
+-- the function's entry, from the loop; the loop, from where the space is written; and the space, from where the number is to be
 abbrev entry : tie.At-loop Inv-loop μ-loop → tie.Start Inv-loop μ-loop
 entry c = c .before .before .before
 
 abbrev turn : tie.After-write-byte Inv-loop μ-loop → tie.At-loop Inv-loop μ-loop
 turn c = c .before .before .before
+
+abbrev space : tie.After-shared-slice-known2 Inv-loop μ-loop → tie.After-write-byte Inv-loop μ-loop
+space c = c .before .before .before .before
 
 begin : {row : List ℕ} {at : ℕ} (numbers : List ℕ) → Stored row at (numbersTo numbers 0) row at
 unfolding spaced
@@ -38,30 +41,15 @@ loop-holds c = (omega arith, begin (c .before .before .args .numbers .now))
 write-byte-requires : tie.Need-write-byte-requires Inv-loop μ-loop
 write-byte-requires c κs = let here = c .before .before in omega (arith, long here, numbers-room (entry here .args .numbers .now) (here .loop .i) (c .before .loop-test .taken))
 
-mul-write-decimal : tie.Need-mul-write-decimal Inv-loop μ-loop
-mul-write-decimal c = search needs
-
-shared-slice-read-write-decimal : tie.Need-shared-slice-read-write-decimal Inv-loop μ-loop
-shared-slice-read-write-decimal c = search needs
-
 write-decimal-requires : tie.Need-write-decimal-requires Inv-loop μ-loop
-write-decimal-requires c κs = let here = turn (c .before .before .before .before) in omega (arith, long here, numbers-room (entry here .args .numbers .now) (here .loop .i) (omega arith))
-
-add-i : tie.Need-add-i Inv-loop μ-loop
-add-i c = search needs
-
-loop-less : tie.Need-loop-less Inv-loop μ-loop
-loop-less c = search needs
+write-decimal-requires c κs = let here = turn (space c) in omega (arith, long here, numbers-room (entry here .args .numbers .now) (here .loop .i) (omega arith))
 
 loop-again : tie.Need-loop-again Inv-loop μ-loop
 loop-again c =
-    let space = c .before .before .before .before .before .before .before in
-    let here = turn space in
+    let begun = space (c .before .before .before) in
+    let here = turn begun in
     let more = numbers-room (entry here .args .numbers .now) (here .loop .i) (omega arith) in
-    (omega arith, rw (numbers-more (entry here .args .numbers .now) (here .loop .i) (omega arith)) (stored-then (omega (arith, more)) (here .loop .inv .1) (stored-then (omega (arith, long here, more)) (space .write-byte .ensures) (c .before .before .write-decimal .ensures))))
-
-same-length : tie.Need-same-length Inv-loop μ-loop
-same-length c = long (c .before)
+    (omega arith, rw (numbers-more (entry here .args .numbers .now) (here .loop .i) (omega arith)) (stored-then (omega (arith, more)) (here .loop .inv .1) (stored-then (omega (arith, long here, more)) (begun .write-byte .ensures) (c .before .before .write-decimal .ensures))))
 
 returns : tie.Need-returns Inv-loop μ-loop
 returns c = let here = c .before in rw (take-all (here .loop .i) (entry here .args .numbers .now) (c .loop-test .left)) at (here .loop .inv .1)
@@ -74,11 +62,9 @@ write-numbers-spec =
     μ-loop
     loop-holds
     write-byte-requires
-    mul-write-decimal
-    shared-slice-read-write-decimal
+    (search needs) (search needs)
     write-decimal-requires
-    add-i
-    loop-less
+    (search needs) (search needs)
     loop-again
-    same-length
+    (λ c. long (c .before))
     returns)

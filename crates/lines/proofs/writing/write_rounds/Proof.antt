@@ -13,59 +13,36 @@ use Rattle.lines.proofs.LineLaws.{one-few, rounds-parts}
 use Rattle.lines.proofs.writing.write_rounds.Statement.{statement}
 use Rattle.lines.proofs.writing.write_rounds.Tie as tie
 
--- the function's entry, from where the first word is written; and each part, from where the next is
+-- the function's entry, from where the first word is written; and each part, from where the next is to be
 abbrev entry : tie.After-write-bytes → tie.Start
 entry c = c .before .before .before .before
 
-abbrev word : tie.After-write-numbers → tie.After-write-bytes
-word c = c .before .before .before .before .before
+abbrev word : tie.After-first → tie.After-write-bytes
+word c = c .before .before .before .before
 
-abbrev first : tie.After-write-bytes2 → tie.After-write-numbers
-first c = c .before .before .before .before .before
+abbrev first : tie.After-write-bytes-arg4 → tie.After-write-numbers
+first c = c .before .before .before .before
 
-abbrev other : tie.After-write-numbers2 → tie.After-write-bytes2
-other c = c .before .before .before .before .before
+abbrev other : tie.After-second → tie.After-write-bytes2
+other c = c .before .before .before .before
 
 few : (c : tie.Start) → (length (spaced (decimal (c .args .rounds) ∷ [])) ≤ 21) × (length (spaced (decimal (c .args .facts) ∷ [])) ≤ 21) × (64 ≤ length (now (c .args .out)))
 few c = (one-few 19 _ (omega arith), one-few 19 _ (omega arith), c .pre)
 
-slice-aggregate-write-bytes : tie.Need-slice-aggregate-write-bytes
-slice-aggregate-write-bytes c = search needs
-
-write-bytes-requires : tie.Need-write-bytes-requires
-write-bytes-requires c κs = search needs
-
-slice-aggregate-write-numbers : tie.Need-slice-aggregate-write-numbers
-slice-aggregate-write-numbers c = search needs
-
-write-numbers-requires : tie.Need-write-numbers-requires
-write-numbers-requires c κs = let begun = c .before .before .before .before in (omega arith, omega (arith, few (entry begun)))
-
-slice-aggregate-write-bytes-2 : tie.Need-slice-aggregate-write-bytes-2
-slice-aggregate-write-bytes-2 c = search needs
-
-write-bytes-requires-2 : tie.Need-write-bytes-requires-2
-write-bytes-requires-2 c κs = let rounds = c .before .before .before .before in omega (arith, few (entry (word rounds)))
-
-slice-aggregate-write-numbers-2 : tie.Need-slice-aggregate-write-numbers-2
-slice-aggregate-write-numbers-2 c = search needs
-
 write-numbers-requires-2 : tie.Need-write-numbers-requires-2
-write-numbers-requires-2 c κs = let between = c .before .before .before .before in (omega arith, omega (arith, few (entry (word (first between)))))
+write-numbers-requires-2 c κs = (omega arith, omega (arith, few (entry (word (first (other c .before) .before)))))
 
 write-byte-requires : tie.Need-write-byte-requires
-write-byte-requires c κs = omega (arith, few (entry (word (first (other (c .before .before .before))))))
-
-same-length : tie.Need-same-length
-same-length c = search needs
+write-byte-requires c κs = omega (arith, let facts = c .before .before .before in few (entry (word (first (other (facts .before) .before) .before))))
 
 returns : tie.Need-returns
 unfolding text
 returns c =
-    let facts = c .before .before .before .before .before .before in
-    let between = other facts in
-    let rounds = first between in
-    let begun = word rounds in
+    let call = c .before .before .before in
+    let facts = call .before .before .before in
+    let between = other (facts .before) in
+    let rounds = first (between .before) in
+    let begun = word (rounds .before) in
     let a = entry begun .args in
     let sizes = few (entry begun) in
     let end = length-append (spaced (decimal (a .facts) ∷ [])) (10 ∷ []) in
@@ -78,14 +55,12 @@ pub write-rounds-spec : {M : Type 1} → statement M
 write-rounds-spec =
     tie.close
     (tie.spec
-    slice-aggregate-write-bytes
-    write-bytes-requires
-    slice-aggregate-write-numbers
-    write-numbers-requires
-    slice-aggregate-write-bytes-2
-    write-bytes-requires-2
-    slice-aggregate-write-numbers-2
+    (search needs) (search needs) (search needs)
+    (λ c κs. (omega arith, omega (arith, few (entry (word c)))))
+    (search needs)
+    (λ c κs. omega (arith, few (entry (word (first c .before)))))
+    (search needs)
     write-numbers-requires-2
     write-byte-requires
-    same-length
+    (search needs)
     returns)

@@ -34,45 +34,9 @@ returns-2 : tie.Need-returns-2
 unfolding jobOf
 returns-2 c = simp (le-ltb _ _ (c .before .if1 .left), lt-ltb _ _ (c .if2 .taken))
 
-shared-slice-read-grammar : tie.Need-shared-slice-read-grammar
-shared-slice-read-grammar c = search needs
-
-cast-grammar : tie.Need-cast-grammar
-cast-grammar c = omega (arith, c .shared-slice-known .given 0)
-
-shared-slice-read-grammar-2 : tie.Need-shared-slice-read-grammar-2
-shared-slice-read-grammar-2 c = search needs
-
-cast-grammar-2 : tie.Need-cast-grammar-2
-cast-grammar-2 c = omega (arith, c .shared-slice-known2 .given 1)
-
-mul-grammar : tie.Need-mul-grammar
-mul-grammar c = omega (arith, c .shared-slice-known2 .given 0, c .shared-slice-known2 .given 1)
-
-add-grammar : tie.Need-add-grammar
-add-grammar c = omega (arith, c .shared-slice-known2 .given 0, c .shared-slice-known2 .given 1)
-
-add-if3 : tie.Need-add-if3
-add-if3 c = omega (arith, c .shared-slice-known2 .given 0, c .shared-slice-known2 .given 1)
-
 returns-3 : tie.Need-returns-3
 unfolding jobOf
 returns-3 c = let e = c .before .before .before in simp (le-ltb _ _ (e .before .if1 .left), le-ltb _ _ (e .if2 .left), lt-ltb _ _ (c .if3 .taken))
-
-add-line : tie.Need-add-line
-add-line c = search needs
-
-shared-slice-read-line : tie.Need-shared-slice-read-line
-shared-slice-read-line c = search needs
-
-cast-line : tie.Need-cast-line
-cast-line c = omega (arith, c .shared-slice-known3 .given (2 + grammarCount (input c)))
-
-add-if4 : tie.Need-add-if4
-add-if4 c = search needs
-
-add-if4-2 : tie.Need-add-if4-2
-add-if4-2 c = omega (arith, c .shared-slice-known3 .given (2 + grammarCount (input c)))
 
 returns-4 : tie.Need-returns-4
 unfolding jobOf
@@ -80,30 +44,6 @@ returns-4 c =
     let line = c .before .before in
     let grammar = line .before .before .before in
     simp (le-ltb _ _ (grammar .before .if1 .left), le-ltb _ _ (grammar .if2 .left), le-ltb _ _ (line .if3 .left), lt-ltb _ _ (c .if4 .taken))
-
-add-questions : tie.Need-add-questions
-add-questions c = search needs
-
-add-questions-2 : tie.Need-add-questions-2
-add-questions-2 c = search needs
-
-shared-slice-read-questions : tie.Need-shared-slice-read-questions
-shared-slice-read-questions c = search needs
-
-cast-questions : tie.Need-cast-questions
-cast-questions c = omega (arith, few c)
-
-add-end : tie.Need-add-end
-add-end c = search needs
-
-add-end-2 : tie.Need-add-end-2
-add-end-2 c = search needs
-
-mul-end : tie.Need-mul-end
-mul-end c = omega (arith, few c)
-
-add-end-3 : tie.Need-add-end-3
-add-end-3 c = omega (arith, few c)
 
 returns-5 : tie.Need-returns-5
 returns-5 c = simp (sound (c .before .before), lt-ltb _ _ (c .if5 .taken))
@@ -120,28 +60,21 @@ read-job-spec =
     (tie.spec
     returns
     returns-2
-    shared-slice-read-grammar
-    cast-grammar
-    shared-slice-read-grammar-2
-    cast-grammar-2
-    mul-grammar
-    add-grammar
-    add-if3
+    (search needs)
+    (λ c. omega (arith, c .shared-slice-known .given 0))
+    (search needs)
+    (λ c. omega (arith, c .shared-slice-known2 .given 1))
+    (λ c. omega (arith, c .shared-slice-known2 .given 0, c .shared-slice-known2 .given 1))
+    (λ c. omega (arith, c .shared-slice-known2 .given 0, c .shared-slice-known2 .given 1))
+    (λ c. omega (arith, c .shared-slice-known2 .given 0, c .shared-slice-known2 .given 1))
     returns-3
-    add-line
-    shared-slice-read-line
-    cast-line
-    add-if4
-    add-if4-2
+    (search needs) (search needs)
+    (λ c. omega (arith, c .shared-slice-known3 .given (2 + grammarCount (input c))))
+    (search needs)
+    (λ c. omega (arith, c .shared-slice-known3 .given (2 + grammarCount (input c))))
     returns-4
-    add-questions
-    add-questions-2
-    shared-slice-read-questions
-    cast-questions
-    add-end
-    add-end-2
-    mul-end
-    add-end-3
+    (search needs) (search needs) (search needs) (λ c. omega (arith, few c)) (search needs) (search needs)
+    (λ c. omega (arith, few c)) (λ c. omega (arith, few c))
     returns-5
     returns-6
     returns-7)

@@ -30,30 +30,6 @@ filled c = c .before .before .before .before .before .before .before
 abbrev written : tie.After-struct-known → tie.After-write-rounds
 written c = c .before .before .before .before .before
 
-slice-aggregate-chart : tie.Need-slice-aggregate-chart
-slice-aggregate-chart c = search needs
-
-slice-aggregate-chart-2 : tie.Need-slice-aggregate-chart-2
-slice-aggregate-chart-2 c = search needs
-
-chart-requires : tie.Need-chart-requires
-chart-requires c κs = search needs
-
-enum-told : tie.Need-enum-told
-enum-told c = search needs
-
-enum-known-rounds : tie.Need-enum-known-rounds
-enum-known-rounds c = search needs
-
-add-width : tie.Need-add-width
-add-width c = search needs
-
-write-rounds-requires : tie.Need-write-rounds-requires
-write-rounds-requires c κs = search needs
-
-slice-aggregate-write-facts : tie.Need-slice-aggregate-write-facts
-slice-aggregate-write-facts c = search needs
-
 mul-write-facts : tie.Need-mul-write-facts
 mul-write-facts c = omega (arith, memory-is (checked-accepted _ _ _ _ _ _ (entry (filled (written c)) .pre .0)) .0)
 
@@ -74,12 +50,10 @@ never e = let z : _≡_ {A = ℕ} 0 1 = cc in omega arith
 
 returns : tie.Need-returns
 returns c =
-    let charted = c .before .before .before .before in
+    let back = c .before .before in
+    let charted = back .before .before in
     let ready = chart-ready (checked-accepted _ _ _ _ _ _ (entry charted .pre .0)) (length-replicate {A = ℕ} 512 0) (length-replicate {A = ℕ} 16384 0) (charted .chart .ensures) in
     absurd (never (sym (ready .0) ∙ c .enum-told .given .1))
-
-same-length : tie.Need-same-length
-same-length c = search needs
 
 returns-2 : tie.Need-returns-2
 unfolding roundsLine
@@ -100,17 +74,11 @@ pub write-chart-spec : {M : Type 1} → statement M
 write-chart-spec =
     tie.close
     (tie.spec
-    slice-aggregate-chart
-    slice-aggregate-chart-2
-    chart-requires
-    enum-told
-    enum-known-rounds
-    add-width
-    write-rounds-requires
-    slice-aggregate-write-facts
+    (search needs) (search needs) (search needs) (search needs) (search needs) (search needs) (search needs)
+    (search needs)
     mul-write-facts
     mul-write-facts-2
     write-facts-requires
     returns
-    same-length
+    (search needs)
     returns-2)

@@ -14,48 +14,30 @@ use Rattle.report.proofs.sections.write_marked.Tie as tie
 abbrev entry : tie.After-marks → tie.Start
 entry c = c .before .before .before .before .before .before .before
 
-slice-aggregate-marks : tie.Need-slice-aggregate-marks
-slice-aggregate-marks c = search needs
-
-slice-aggregate-marks-2 : tie.Need-slice-aggregate-marks-2
-slice-aggregate-marks-2 c = search needs
-
-slice-aggregate-marks-3 : tie.Need-slice-aggregate-marks-3
-slice-aggregate-marks-3 c = search needs
-
-marks-requires : tie.Need-marks-requires
-marks-requires c κs = search needs
-
-slice-aggregate-write-marks : tie.Need-slice-aggregate-write-marks
-slice-aggregate-write-marks c = search needs
+-- the marks are asked for, from where they are to be written
+abbrev asked : tie.After-marked3 → tie.After-marks
+asked c = c .before .before .before .before .before
 
 write-marks-requires : tie.Need-write-marks-requires
 write-marks-requires c κs =
-    let asked = c .before .before .before .before .before in
-    let passes = checked-accepted _ _ _ _ _ _ (entry asked .pre .0 .1) in
-    let marked = marks-answered passes (length-replicate {A = ℕ} 512 0) (length-replicate {A = ℕ} 16384 0) (length-replicate {A = ℕ} 63 0) (asked .marks .ensures) in
-    (omega (arith, ready-short passes, marked .1), omega (arith, ready-short passes, entry asked .pre .1), marked .2)
-
-same-length : tie.Need-same-length
-same-length c = search needs
+    let marking = asked c in
+    let passes = checked-accepted _ _ _ _ _ _ (entry marking .pre .0 .1) in
+    let marked = marks-answered passes (length-replicate {A = ℕ} 512 0) (length-replicate {A = ℕ} 16384 0) (length-replicate {A = ℕ} 63 0) (marking .marks .ensures) in
+    (omega (arith, ready-short passes, marked .1), omega (arith, ready-short passes, entry marking .pre .1), marked .2)
 
 returns : tie.Need-returns
 unfolding marksLine
 returns c =
-    let asked = c .before .before .before .before .before .before .before .before in
-    let passes = checked-accepted _ _ _ _ _ _ (entry asked .pre .0 .1) in
-    let marked = marks-answered passes (length-replicate {A = ℕ} 512 0) (length-replicate {A = ℕ} 16384 0) (length-replicate {A = ℕ} 63 0) (asked .marks .ensures) in
+    let marking = asked (c .before .before .before) in
+    let passes = checked-accepted _ _ _ _ _ _ (entry marking .pre .0 .1) in
+    let marked = marks-answered passes (length-replicate {A = ℕ} 512 0) (length-replicate {A = ℕ} 16384 0) (length-replicate {A = ℕ} 63 0) (marking .marks .ensures) in
     rw (sym (marked .0)) (c .before .before .write-marks .ensures)
 
 pub write-marked-spec : {M : Type 1} → statement M
 write-marked-spec =
     tie.close
     (tie.spec
-    slice-aggregate-marks
-    slice-aggregate-marks-2
-    slice-aggregate-marks-3
-    marks-requires
-    slice-aggregate-write-marks
+    (search needs) (search needs) (search needs) (search needs) (search needs)
     write-marks-requires
-    same-length
+    (search needs)
     returns)

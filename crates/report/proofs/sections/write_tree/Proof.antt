@@ -26,88 +26,54 @@ few c = (three-few 2 _ _ _ (omega arith) (omega arith) (omega arith), entry c .p
 abbrev written : tie.After-tree → tie.After-write-line
 written c = c .before .before .before .before .before .before
 
-slice-aggregate-write-line : tie.Need-slice-aggregate-write-line
-slice-aggregate-write-line c = search needs
-
-slice-aggregate-write-line-2 : tie.Need-slice-aggregate-write-line-2
-slice-aggregate-write-line-2 c = search needs
-
-write-line-requires : tie.Need-write-line-requires
-write-line-requires c κs = (omega arith, omega (arith, few c))
-
-slice-aggregate-tree : tie.Need-slice-aggregate-tree
-slice-aggregate-tree c = search needs
-
-slice-aggregate-tree-2 : tie.Need-slice-aggregate-tree-2
-slice-aggregate-tree-2 c = search needs
-
-slice-aggregate-tree-3 : tie.Need-slice-aggregate-tree-3
-slice-aggregate-tree-3 c = search needs
-
-tree-requires : tie.Need-tree-requires
-tree-requires c κs = search needs
-
-enum-known-refusal : tie.Need-enum-known-refusal
-enum-known-refusal c = search needs
-
 refused-line-requires : tie.Need-refused-line-requires
-refused-line-requires c κs = let asked = c .before .before .before .before .before .before .before in omega (arith, few (written asked .before))
-
-enum-known-count : tie.Need-enum-known-count
-enum-known-count c = search needs
-
-slice-aggregate-write-nodes : tie.Need-slice-aggregate-write-nodes
-slice-aggregate-write-nodes c = search needs
+refused-line-requires c κs =
+    let told = c .before .before in
+    let back = told .before .before in
+    omega (arith, few (written (back .before .before .before) .before))
 
 write-nodes-requires : tie.Need-write-nodes-requires
 write-nodes-requires c κs =
-    let asked = c .before .before .before .before .before .before .before .before in
-    let shows = tree-shown _ _ _ _ _ _ _ _ (rw (c .before .before .before .count .given .1) at (asked .tree .ensures)) in
-    (omega (arith, shows .room), omega (arith, few (written asked .before), shows .room))
-
-same-length : tie.Need-same-length
-same-length c = search needs
+    let told = c .before .before .before in
+    let back = told .before .before in
+    let tree = back .before .before .before in
+    let shows = tree-shown _ _ _ _ _ _ _ _ (rw (told .count .given .1) at (tree .tree .ensures)) in
+    (omega (arith, shows .room), omega (arith, few (written tree .before), shows .room))
 
 returns : tie.Need-returns
 unfolding treeLines flatten lentWords lentDepths lentTree numbered lineOf text
 returns c =
-    let told = c .before .before .before .before .before in
-    let asked = told .before .before .before .before .before in
-    let line = written asked in
-    let refusal = c .before .before .refused-line .ensures in
-    let refused = tree-refused _ _ _ _ _ _ _ _ (rw (told .refusal .given .1) at (asked .tree .ensures)) in
+    let answered = c .before .before in
+    let told = answered .before .before .before in
+    let back = told .before .before in
+    let tree = back .before .before .before in
+    let line = written tree in
+    let refusal = answered .refused-line .ensures in
+    let refused = tree-refused _ _ _ _ _ _ _ _ (rw (told .refusal .given .1) at (tree .tree .ensures)) in
     rw (refused, append-nil) (stored-then (omega (arith, few (line .before))) (line .write-line .ensures) (refusal .0))
-
-same-length-2 : tie.Need-same-length-2
-same-length-2 c = search needs
 
 returns-2 : tie.Need-returns-2
 unfolding treeLines flatten lentWords lentDepths lentTree numbered lineOf text
 returns-2 c =
-    let told = c .before .before .before .before .before .before in
-    let asked = told .before .before .before .before .before in
-    let line = written asked in
+    let call = c .before .before .before in
+    let told = call .before .before .before in
+    let back = told .before .before in
+    let tree = back .before .before .before in
+    let line = written tree in
     let nodes = c .before .before .write-nodes .ensures in
-    let shows = tree-shown _ _ _ _ _ _ _ _ (rw (told .count .given .1) at (asked .tree .ensures)) in
+    let shows = tree-shown _ _ _ _ _ _ _ _ (rw (told .count .given .1) at (tree .tree .ensures)) in
     rw (shows .passed, sym (nodes-printed _ _ (shows .nodes) (shows .begins))) (stored-then (omega (arith, few (line .before), shows .room)) (line .write-line .ensures) (nodes .0))
 
 pub write-tree-spec : {M : Type 1} → statement M
 write-tree-spec =
     tie.close
     (tie.spec
-    slice-aggregate-write-line
-    slice-aggregate-write-line-2
-    write-line-requires
-    slice-aggregate-tree
-    slice-aggregate-tree-2
-    slice-aggregate-tree-3
-    tree-requires
-    enum-known-refusal
+    (search needs) (search needs) (λ c κs. (omega arith, omega (arith, few c)))
+    (search needs) (search needs) (search needs) (search needs) (search needs)
     refused-line-requires
-    enum-known-count
-    slice-aggregate-write-nodes
+    (search needs) (search needs)
     write-nodes-requires
-    same-length
+    (search needs)
     returns
-    same-length-2
+    (search needs)
     returns-2)

@@ -55,6 +55,10 @@ module _ (t : ℕ) where
   abbrev searched : lts.At-loop (claims t) (at t) count-nodes.Post Inv-loop μ-loop → lts.After-search (claims t) (at t) count-nodes.Post Inv-loop μ-loop
   searched c = c .before .before .before
 
+  -- the turn, from where a category's child is read
+  abbrev turn : lts.Else2 (claims t) (at t) count-nodes.Post Inv-loop μ-loop → lts.In-loop (claims t) (at t) count-nodes.Post Inv-loop μ-loop
+  turn c = c .before .before .before
+
   -- the rule that is found is one of at most 128
   inside : (c : lts.After-search (claims t) (at t) count-nodes.Post Inv-loop μ-loop) → c .search .result .rule < 128
   inside c = let p = asked c .pre .1 in lt-of-lt-of-le (found-inside _ _ _ _ _ _ (p .0) _ _ _ _ (p .1) _ (c .search .ensures)) (p .0 .few)
@@ -77,15 +81,6 @@ module _ (t : ℕ) where
       let p = asked r .pre .1 in
       turn-child _ _ _ _ _ _ (p .0) _ _ _ _ (p .1) _ (r .search .ensures) _ (c .before .before .rule-symbols .ensures) _ (c .loop-test .taken)
 
-  search-requires : lts.Need-search-requires (claims t) (at t) count-nodes.Post Inv-loop μ-loop
-  search-requires c κs = let p = c .before .before .before .before .pre .1 in (p .0, p .1)
-
-  mul-rule-symbols : lts.Need-mul-rule-symbols (claims t) (at t) count-nodes.Post Inv-loop μ-loop
-  mul-rule-symbols c = omega (arith, inside c)
-
-  element-copy-out-rule-symbols : lts.Need-element-copy-out-rule-symbols (claims t) (at t) count-nodes.Post Inv-loop μ-loop
-  element-copy-out-rule-symbols c = inside c
-
   rule-symbols-requires : lts.Need-rule-symbols-requires (claims t) (at t) count-nodes.Post Inv-loop μ-loop
   rule-symbols-requires c κs = let r = c .before in asked r .pre .1 .0 .stands _ (found-inside _ _ _ _ _ _ (asked r .pre .1 .0) _ _ _ _ (asked r .pre .1 .1) _ (r .search .ensures))
 
@@ -98,34 +93,16 @@ module _ (t : ℕ) where
   returns : lts.Need-returns (claims t) (at t) count-nodes.Post Inv-loop μ-loop
   returns c = counting-over (c .if1 .taken) (c .before .before .loop .inv .counting)
 
-  shared-slice-read-symbol : lts.Need-shared-slice-read-symbol (claims t) (at t) count-nodes.Post Inv-loop μ-loop
-  shared-slice-read-symbol c = search needs
-
   cast-symbol : lts.Need-cast-symbol (claims t) (at t) count-nodes.Post Inv-loop μ-loop
   cast-symbol c = omega (arith, c .shared-slice-known5 .given (c .before .before .before .loop .d))
 
   add-count : lts.Need-add-count (claims t) (at t) count-nodes.Post Inv-loop μ-loop
-  add-count c = let l = c .before .before .before .before in omega (arith, c .before .before .if1 .left, asked (searched l) .pre .1 .2)
-
-  mul-m : lts.Need-mul-m (claims t) (at t) count-nodes.Post Inv-loop μ-loop
-  mul-m c = omega (arith, few (c .before .before .before))
-
-  element-copy-out-m : lts.Need-element-copy-out-m (claims t) (at t) count-nodes.Post Inv-loop μ-loop
-  element-copy-out-m c = omega (arith, few (c .before .before .before))
-
-  add-e : lts.Need-add-e (claims t) (at t) count-nodes.Post Inv-loop μ-loop
-  add-e c = omega (arith, few (c .before .before .before .before))
-
-  mul-e : lts.Need-mul-e (claims t) (at t) count-nodes.Post Inv-loop μ-loop
-  mul-e c = omega (arith, few (c .before .before .before .before))
-
-  element-copy-out-e : lts.Need-element-copy-out-e (claims t) (at t) count-nodes.Post Inv-loop μ-loop
-  element-copy-out-e c = omega (arith, few (c .before .before .before .before))
+  add-count c = let o = c .before .before in omega (arith, o .if1 .left, asked (searched (o .before .before)) .pre .1 .2)
 
   depth-at-requires : lts.Need-depth-at-requires (claims t) (at t) count-nodes.Post Inv-loop μ-loop
   depth-at-requires c κs =
       let o = c .before .before in
-      let i = o .before .before .before in
+      let i = turn o in
       let r = searched (i .before) in
       let p = asked r .pre .1 in
       (p .0 .short, next i .start, next i .inside, turn-fit _ _ _ _ _ _ (p .0) _ _ _ _ (p .1) _ (r .search .ensures) _ (i .before .before .rule-symbols .ensures) _ (i .loop-test .taken) (o .if2 .left))
@@ -133,7 +110,7 @@ module _ (t : ℕ) where
   count-nodes-requires : lts.Need-count-nodes-requires (claims t) (at t) count-nodes.Post Inv-loop μ-loop
   count-nodes-requires c κs =
       let o = c .before .before .before in
-      let i = o .before .before .before in
+      let i = turn o in
       let r = searched (i .before) in
       let p = asked r .pre in
       let e = c .depth-at .ensures in
@@ -142,14 +119,9 @@ module _ (t : ℕ) where
 
   add-count-2 : lts.Need-add-count-2 (claims t) (at t) count-nodes.Post Inv-loop μ-loop
   add-count-2 c =
-      let o = c .before .before .before .before .before .before in
-      omega (arith, c .count-nodes .ensures .most, o .if1 .left, asked (searched (o .before .before)) .pre .1 .2)
-
-  add-d : lts.Need-add-d (claims t) (at t) count-nodes.Post Inv-loop μ-loop
-  add-d c = omega (arith, few (c .before .before .before))
-
-  loop-less : lts.Need-loop-less (claims t) (at t) count-nodes.Post Inv-loop μ-loop
-  loop-less c = omega (arith, c .before .before .before .loop-test .taken)
+      let e = c .before .before in
+      let o = e .before .before in
+      omega (arith, c .count-nodes .ensures .most, o .before .before .if1 .left, asked (searched (turn o .before)) .pre .1 .2)
 
   loop-again : lts.Need-loop-again (claims t) (at t) count-nodes.Post Inv-loop μ-loop
   loop-again c =
@@ -167,24 +139,24 @@ module _ (t : ℕ) where
 
 pub +count-nodes-spec : {M : Type 1} → statement M
 +count-nodes-spec = close μ λ t. lts.spec (claims t) (at t) count-nodes.Post Inv-loop μ-loop
-    (search-requires t)
-    (mul-rule-symbols t)
-    (element-copy-out-rule-symbols t)
+    (λ c κs. let k = c .before in let p = k .before .before .before .pre .1 in (p .0, p .1))
+    (λ c. omega (arith, inside t c))
+    (inside t)
     (rule-symbols-requires t)
     (loop-holds t)
     (returns t)
-    (shared-slice-read-symbol t)
+    (search needs)
     (cast-symbol t)
     (add-count t)
-    (mul-m t)
-    (element-copy-out-m t)
-    (add-e t)
-    (mul-e t)
-    (element-copy-out-e t)
+    (λ c. omega (arith, few t (turn t c)))
+    (λ c. omega (arith, few t (turn t c)))
+    (λ c. omega (arith, few t (turn t (c .before))))
+    (λ c. omega (arith, few t (turn t (c .before))))
+    (λ c. omega (arith, few t (turn t (c .before))))
     (depth-at-requires t)
     (count-nodes-requires t)
     (add-count-2 t)
-    (add-d t)
-    (loop-less t)
+    (λ c. omega (arith, few t (c .before .before .before)))
+    (λ c. omega (arith, c .before .before .before .loop-test .taken))
     (loop-again t)
     (returns-2 t)

@@ -20,15 +20,6 @@ turn c = taken _ _ (omega (arith, c .before .before .loop .inv .low)) (c .before
 loop-holds : tie.Need-loop-holds Inv-loop μ-loop
 loop-holds c = class-none _ _ _ _
 
-first-requires : tie.Need-first-requires Inv-loop μ-loop
-first-requires c κs = search needs
-
-cast-e : tie.Need-cast-e Inv-loop μ-loop
-cast-e c = search needs
-
-sub-if2 : tie.Need-sub-if2 Inv-loop μ-loop
-sub-if2 c = search needs
-
 shared-slice-read-if2 : tie.Need-shared-slice-read-if2 Inv-loop μ-loop
 shared-slice-read-if2 c =
     let f = c .before .before in
@@ -37,21 +28,6 @@ shared-slice-read-if2 c =
 
 cast-if2 : tie.Need-cast-if2 Inv-loop μ-loop
 cast-if2 c = omega (arith, c .shared-slice-known2 .given (c .before .before .first .result - 1))
-
-sub-insert : tie.Need-sub-insert Inv-loop μ-loop
-sub-insert c = search needs
-
-insert-requires : tie.Need-insert-requires Inv-loop μ-loop
-insert-requires c κs = omega (arith, turn (c .before .before .before) .small)
-
-shl-left : tie.Need-shl-left Inv-loop μ-loop
-shl-left c = turn (c .before) .small
-
-sub-left : tie.Need-sub-left Inv-loop μ-loop
-sub-left c = let t = turn (c .before) in omega (arith, t .power, t .covered)
-
-loop-less : tie.Need-loop-less Inv-loop μ-loop
-loop-less c = let t = turn (c .before) in omega (arith, t .power, t .less)
 
 loop-again : tie.Need-loop-again Inv-loop μ-loop
 loop-again c =
@@ -76,15 +52,13 @@ class-starts-spec =
     Inv-loop
     μ-loop
     loop-holds
-    first-requires
-    cast-e
-    sub-if2
+    (search needs) (search needs) (search needs)
     shared-slice-read-if2
     cast-if2
-    sub-insert
-    insert-requires
-    shl-left
-    sub-left
-    loop-less
+    (search needs)
+    (λ c κs. omega (arith, turn (c .before .before .before) .small))
+    (λ c. turn (c .before) .small)
+    (λ c. let t = turn (c .before) in omega (arith, t .power, t .covered))
+    (λ c. let t = turn (c .before) in omega (arith, t .power, t .less))
     loop-again
     returns)

@@ -5,9 +5,6 @@ use borrow.Author.Needs.{needs}
 use Rattle.tree.proofs.division.depth_at.Statement.{statement}
 use Rattle.tree.proofs.division.depth_at.Tie as tie
 
-add-width : tie.Need-add-width
-add-width c = search needs
-
 mul-result : tie.Need-mul-result
 mul-result c = let a = c .args in omega (arith, depth-place (a .n) _ (a .category) (a .start) (a .end) (c .pre .1) (c .pre .2) (c .pre .3))
 
@@ -26,18 +23,15 @@ mul-result-3 c = let a = c .args in omega (arith, depth-place (a .n) _ (a .categ
 shared-slice-read-result : tie.Need-shared-slice-read-result
 shared-slice-read-result c = let a = c .before .args in omega (arith, depth-place (a .n) _ (a .category) (a .start) (a .end) (c .before .pre .1) (c .before .pre .2) (c .before .pre .3))
 
-returns : tie.Need-returns
-returns c = search needs
-
 pub depth-at-spec : {M : Type 1} → statement M
 depth-at-spec =
     tie.close
     (tie.spec
-    add-width
+    (search needs)
     mul-result
     add-result
     mul-result-2
     add-result-2
     mul-result-3
     shared-slice-read-result
-    returns)
+    (search needs))

@@ -22,24 +22,6 @@ module _ (c : tie.Then1) where
   first-depth : ((asked .args .symbol - 128) * (length (now (asked .args .line)) + 1) + asked .args .start) * (length (now (asked .args .line)) + 1) + 0 < length (now (asked .args .depths))
   first-depth = depth-place _ _ _ _ 0 (asked .pre .1) (omega arith) (asked .pre .3 (c .if1 .taken) .1)
 
-add-width : tie.Need-add-width
-add-width c = search needs
-
-mul-row : tie.Need-mul-row
-mul-row c = omega (arith, place c)
-
-add-row : tie.Need-add-row
-add-row c = omega (arith, place c)
-
-mul-shallow-end : tie.Need-mul-shallow-end
-mul-shallow-end c = omega (arith, first-depth c)
-
-mul-shallow-end-2 : tie.Need-mul-shallow-end-2
-mul-shallow-end-2 c = omega (arith, place c)
-
-shared-slice-read-shallow-end : tie.Need-shared-slice-read-shallow-end
-shared-slice-read-shallow-end c = place (c .before)
-
 shallow-end-requires : tie.Need-shallow-end-requires
 shallow-end-requires c κs e m =
     let s = asked (c .before) in
@@ -54,23 +36,11 @@ returns c =
 returns-2 : tie.Need-returns-2
 returns-2 c = end-past _ _ _ _ _ _ _ (c .before .if1 .left) (c .if2 .taken)
 
-shared-slice-read-if3 : tie.Need-shared-slice-read-if3
-shared-slice-read-if3 c = search needs
-
 cast-if3 : tie.Need-cast-if3
-cast-if3 c = omega (arith, c .shared-slice-known5 .given (c .before .before .before .before .before .before .args .start))
+cast-if3 c = let o = c .before .before .before in omega (arith, c .shared-slice-known5 .given (o .before .before .before .args .start))
 
 returns-3 : tie.Need-returns-3
 returns-3 c = end-other _ _ _ _ _ _ _ (c .before .before .before .if1 .left) (c .if3 .taken)
-
-add-member : tie.Need-add-member
-add-member c = search needs
-
-member-requires : tie.Need-member-requires
-member-requires c κs = search needs
-
-add-result : tie.Need-add-result
-add-result c = search needs
 
 returns-4 : tie.Need-returns-4
 returns-4 c =
@@ -78,26 +48,20 @@ returns-4 c =
     end-next _ _ _ _ _ _ _ (o .before .before .before .if1 .left) (o .before .before .if2 .left) (o .if3 .left) (member-true _ _ (c .before .member .ensures) (c .if4 .taken))
 
 returns-5 : tie.Need-returns-5
-returns-5 c = end-out _ _ _ _ _ _ _ (c .before .before .before .before .before .if1 .left) (member-false _ _ (c .before .member .ensures) (c .if4 .left))
+returns-5 c = let o = c .before .before in end-out _ _ _ _ _ _ _ (o .before .before .before .if1 .left) (member-false _ _ (c .before .member .ensures) (c .if4 .left))
 
 pub first-end-spec : {M : Type 1} → statement M
 first-end-spec =
     tie.close
     (tie.spec
-    add-width
-    mul-row
-    add-row
-    mul-shallow-end
-    mul-shallow-end-2
-    shared-slice-read-shallow-end
+    (search needs) (λ c. omega (arith, place c)) (λ c. omega (arith, place c))
+    (λ c. omega (arith, first-depth c)) (λ c. omega (arith, place c)) (λ c. place (c .before))
     shallow-end-requires
     returns
     returns-2
-    shared-slice-read-if3
+    (search needs)
     cast-if3
     returns-3
-    add-member
-    member-requires
-    add-result
+    (search needs) (search needs) (search needs)
     returns-4
     returns-5)

@@ -10,30 +10,19 @@ use Rattle.tree.proofs.DivisionLaws.{row-place, serve-other, serve-empt
 use Rattle.tree.proofs.division.may_serve.Statement.{statement}
 use Rattle.tree.proofs.division.may_serve.Tie as tie
 
-rule-left-requires : tie.Need-rule-left-requires
-rule-left-requires c κs = search needs
-
-cast-if1 : tie.Need-cast-if1
-cast-if1 c = search needs
+-- the function's entry
+abbrev entry : tie.After-rule-left → tie.Start
+entry c = c .before .before .before .before
 
 returns : tie.Need-returns
 returns c = serve-other _ _ _ _ _ _ (λ q. c .if1 .taken (c .before .rule-left .ensures ∙ q))
 
 -- the rule is of the category
-left : (c : tie.Else1) → let a = c .before .before .before .before .before .args in standing (now (a .g)) (a .at) .left ≡ a .category
+left : (c : tie.Else1) → let a = entry (c .before) .args in standing (now (a .g)) (a .at) .left ≡ a .category
 left c = sym (c .before .rule-left .ensures) ∙ c .if1 .left
-
-rule-symbols-requires : tie.Need-rule-symbols-requires
-rule-symbols-requires c κs = search needs
 
 returns-2 : tie.Need-returns-2
 returns-2 c = serve-empty _ _ _ _ _ _ (left (c .before .before)) (ap length (sym (c .before .rule-symbols .ensures)) ∙ c .if2 .taken)
-
-shared-slice-read-symbol : tie.Need-shared-slice-read-symbol
-shared-slice-read-symbol c = search needs
-
-cast-symbol : tie.Need-cast-symbol
-cast-symbol c = omega (arith, c .shared-slice-known4 .given 0)
 
 -- it has a symbol
 some : (c : tie.After-shared-slice-known4) → 0 < length (now (c .before .before .rule-symbols .result))
@@ -41,34 +30,21 @@ some c = let n = c .before .if2 .left in omega arith
 
 -- the place of its row
 place : (c : tie.Then3) →
-    let e = c .before .before .before .before .before .before .before .before .before .args in
-    (getD (now (c .before .before .before .rule-symbols .result)) 0 0 - 128) * (length (now (e .line)) + 1) + e .start < length (now (e .words))
+    let y = c .before .before .before in
+    let e = entry (y .before .before) .args in
+    (getD (now (y .rule-symbols .result)) 0 0 - 128) * (length (now (e .line)) + 1) + e .start < length (now (e .words))
 place c =
-    let e = c .before .before .before .before .before .before .before .before .before in
-    let q = c .before .before .before .rule-symbols .ensures in
+    let y = c .before .before .before in
+    let e = entry (y .before .before) in
+    let q = y .rule-symbols .ensures in
     row-place _ _ _ _ (e .pre .2) (rw q (e .pre .3 (rw q at (some (c .before))) (rw q at (c .if3 .taken))))
-
-add-row : tie.Need-add-row
-add-row c = search needs
-
-mul-row : tie.Need-mul-row
-mul-row c = omega (arith, place c)
-
-add-row-2 : tie.Need-add-row-2
-add-row-2 c = omega (arith, place c)
-
-mul-result : tie.Need-mul-result
-mul-result c = omega (arith, place c)
-
-shared-slice-read-result : tie.Need-shared-slice-read-result
-shared-slice-read-result c = place (c .before)
 
 returns-3 : tie.Need-returns-3
 returns-3 c =
     let s = c .before .before in
     let q = s .before .before .rule-symbols .ensures in
     let e = s .before .before .before in
-    rw q (serve-row _ _ _ _ _ _ (left e) (rw q at (some s)) (rw q at (c .before .if3 .taken)) (e .before .before .before .before .before .pre .2))
+    rw q (serve-row _ _ _ _ _ _ (left e) (rw q at (some s)) (rw q at (c .before .if3 .taken)) (entry (e .before) .pre .2))
 
 returns-4 : tie.Need-returns-4
 returns-4 c =
@@ -76,11 +52,11 @@ returns-4 c =
     let q = s .before .before .rule-symbols .ensures in
     serve-past _ _ _ _ _ _ (left (s .before .before .before)) (rw q at (some s)) (rw q at (c .before .if3 .left)) (c .if4 .taken)
 
-shared-slice-read-result-2 : tie.Need-shared-slice-read-result-2
-shared-slice-read-result-2 c = search needs
-
 cast-result : tie.Need-cast-result
-cast-result c = omega (arith, c .shared-slice-known6 .given (c .before .before .before .before .before .before .before .before .before .before .before .args .start))
+cast-result c =
+    let s = c .before .before .before in
+    let y = s .before .before in
+    omega (arith, c .shared-slice-known6 .given (entry (y .before .before) .args .start))
 
 returns-5 : tie.Need-returns-5
 returns-5 c =
@@ -92,20 +68,16 @@ pub may-serve-spec : {M : Type 1} → statement M
 may-serve-spec =
     tie.close
     (tie.spec
-    rule-left-requires
-    cast-if1
+    (search needs) (search needs)
     returns
-    rule-symbols-requires
+    (search needs)
     returns-2
-    shared-slice-read-symbol
-    cast-symbol
-    add-row
-    mul-row
-    add-row-2
-    mul-result
-    shared-slice-read-result
+    (search needs)
+    (λ c. omega (arith, c .shared-slice-known4 .given 0))
+    (search needs) (λ c. omega (arith, place c)) (λ c. omega (arith, place c)) (λ c. omega (arith, place c))
+    (λ c. place (c .before))
     returns-3
     returns-4
-    shared-slice-read-result-2
+    (search needs)
     cast-result
     returns-5)

@@ -22,29 +22,17 @@ abbrev μ-loop : tie.MeasureT-loop
 
 -- the end that a turn takes
 module _ (c : tie.After-first Inv-loop μ-loop) where
+  abbrev asked : tie.Start Inv-loop μ-loop
+  asked = c .before .before .before .before
+
   turn : Taken (c .before .before .loop .left) (c .first .result)
   turn = taken _ _ (omega (arith, c .before .before .loop .inv .0)) (c .before .loop-test .taken) (c .first .ensures)
 
-  room : c .before .before .before .before .args .base + c .first .result < length (now (c .before .before .before .before .args .depths))
-  room = c .before .before .before .before .pre _ (c .before .before .loop .inv .1 _ (turn .here))
+  room : asked .args .base + c .first .result < length (now (asked .args .depths))
+  room = asked .pre _ (c .before .before .loop .inv .1 _ (turn .here))
 
 loop-holds : tie.Need-loop-holds Inv-loop μ-loop
 loop-holds c = (omega arith, λ e m. m, λ e m n. absurd (n m))
-
-first-requires : tie.Need-first-requires Inv-loop μ-loop
-first-requires c κs = search needs
-
-cast-e : tie.Need-cast-e Inv-loop μ-loop
-cast-e c = search needs
-
-add-if1 : tie.Need-add-if1 Inv-loop μ-loop
-add-if1 c = omega (arith, room c)
-
-mul-if1 : tie.Need-mul-if1 Inv-loop μ-loop
-mul-if1 c = omega (arith, room c)
-
-shared-slice-read-if1 : tie.Need-shared-slice-read-if1 Inv-loop μ-loop
-shared-slice-read-if1 c = room (c .before)
 
 returns : tie.Need-returns Inv-loop μ-loop
 returns c =
@@ -55,20 +43,11 @@ returns c =
       found = λ k. (l .inv .1 _ (turn f .here), c .if1 .taken);
     }
 
-shl-left : tie.Need-shl-left Inv-loop μ-loop
-shl-left c = turn (c .before .before) .small
-
-sub-left : tie.Need-sub-left Inv-loop μ-loop
-sub-left c = let t = turn (c .before .before) in omega (arith, t .power, t .covered)
-
-loop-less : tie.Need-loop-less Inv-loop μ-loop
-loop-less c = let t = turn (c .before .before) in omega (arith, t .power, t .less)
-
 loop-again : tie.Need-loop-again Inv-loop μ-loop
 loop-again c =
     let f = c .before .before in
     let l = f .before .before .loop in
-    let base = f .before .before .before .before .args .base in
+    let base = asked f .args .base in
     let t = turn f in
     rw (t .power) (
       omega (arith, l .inv .0),
@@ -91,14 +70,11 @@ shallow-end-spec =
     Inv-loop
     μ-loop
     loop-holds
-    first-requires
-    cast-e
-    add-if1
-    mul-if1
-    shared-slice-read-if1
+    (search needs) (search needs) (λ c. omega (arith, room c)) (λ c. omega (arith, room c))
+    (λ c. room (c .before))
     returns
-    shl-left
-    sub-left
-    loop-less
+    (λ c. turn (c .before .before) .small)
+    (λ c. let t = turn (c .before .before) in omega (arith, t .power, t .covered))
+    (λ c. let t = turn (c .before .before) in omega (arith, t .power, t .less))
     loop-again
     returns-2)

@@ -13,34 +13,26 @@ Inv-loop symbol line words depths h set start end starts₀ m₀ starts m = Befo
 abbrev μ-loop : tie.MeasureT-loop
 μ-loop symbol line words depths h set start end starts₀ m₀ starts m = end + 1 - m
 
-class-starts-requires : tie.Need-class-starts-requires Inv-loop μ-loop
-class-starts-requires c κs = let p = c .before .before .before .before .pre in (p .0, λ e m. le-trans (p .2 e m) (p .1))
+-- the function's entry
+abbrev entry : tie.After-shared-slice-known3 Inv-loop μ-loop → tie.Start Inv-loop μ-loop
+entry c = c .before .before .before
 
 returns : tie.Need-returns Inv-loop μ-loop
-returns c = let p = c .before .before .before .before .before .pre in class-before _ _ _ _ _ _ _ _ _ (c .before .if1 .taken) (p .1) (p .2) (c .class-starts .ensures)
+returns c = let p = entry (c .before .before) .pre in class-before _ _ _ _ _ _ _ _ _ (c .before .if1 .taken) (p .1) (p .2) (c .class-starts .ensures)
 
 loop-holds : tie.Need-loop-holds Inv-loop μ-loop
 loop-holds c = before-none _ _ _ _ _ _ _ _
 
 first-end-requires : tie.Need-first-end-requires Inv-loop μ-loop
 first-end-requires c κs =
-    let p = c .before .before .before .before .before .before .pre in
+    let p = entry (c .before .before .before) .pre in
     (p .0, le-trans (c .loop-test .taken) (p .1), λ e m. le-trans (p .2 e m) (p .1), p .3)
-
-insert-requires : tie.Need-insert-requires Inv-loop μ-loop
-insert-requires c κs = search needs
-
-add-m : tie.Need-add-m Inv-loop μ-loop
-add-m c = search needs
-
-loop-less : tie.Need-loop-less Inv-loop μ-loop
-loop-less c = search needs
 
 loop-again : tie.Need-loop-again Inv-loop μ-loop
 loop-again c =
     let i = c .before .before in
     let l = i .before .loop in
-    let p = i .before .before .before .before .before .before .pre in
+    let p = entry (i .before .before .before) .pre in
     let f = c .before .first-end .ensures in
     ⊎-elim
     (λ w. rw (w .2) (before-more _ _ _ _ _ _ _ _ (l .m) (l .starts) _ (i .loop-test .taken) f (l .inv) _ (w .0 .taken) (w .1 .ensures)))
@@ -48,7 +40,7 @@ loop-again c =
     (c .if2 .came)
 
 returns-2 : tie.Need-returns-2 Inv-loop μ-loop
-returns-2 c = before-all _ _ _ _ _ _ _ _ _ _ (c .loop-test .left) (c .before .before .before .before .before .before .pre .2) (c .before .loop .inv)
+returns-2 c = before-all _ _ _ _ _ _ _ _ _ _ (c .loop-test .left) (entry (c .before .before .before) .pre .2) (c .before .loop .inv)
 
 pub starts-before-spec : {M : Type 1} → statement M
 starts-before-spec =
@@ -56,12 +48,10 @@ starts-before-spec =
     (tie.spec
     Inv-loop
     μ-loop
-    class-starts-requires
+    (λ c κs. let p = entry (c .before) .pre in (p .0, λ e m. le-trans (p .2 e m) (p .1)))
     returns
     loop-holds
     first-end-requires
-    insert-requires
-    add-m
-    loop-less
+    (search needs) (search needs) (search needs)
     loop-again
     returns-2)

@@ -3,12 +3,6 @@ use borrow.Author.Needs.{needs}
 use Rattle.tree.proofs.node.bytes_of.Statement.{statement}
 use Rattle.tree.proofs.node.bytes_of.Tie as tie
 
-enum-known-kind : tie.Need-enum-known-kind
-enum-known-kind c = search needs
-
-enum-known-kind-2 : tie.Need-enum-known-kind-2
-enum-known-kind-2 c = search needs
-
 returns : tie.Need-returns
 returns c = rw (c .before .kind .given .1)
 
@@ -16,4 +10,4 @@ returns-2 : tie.Need-returns-2
 returns-2 c = rw (c .before .kind2 .given .1)
 
 pub bytes-of-spec : {M : Type 1} → statement M
-bytes-of-spec = tie.close (tie.spec enum-known-kind enum-known-kind-2 returns returns-2)
+bytes-of-spec = tie.close (tie.spec (search needs) (search needs) returns returns-2)

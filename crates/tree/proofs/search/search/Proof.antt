@@ -37,29 +37,11 @@ module _ (c : tie.At-search Inv-loop μ-loop Inv-search μ-search) where
   few : c .search .p < 128
   few = omega (arith, inside, asked c .pre .0 .few)
 
-sub-h : tie.Need-sub-h Inv-loop μ-loop Inv-search μ-search
-sub-h c = omega (arith, c .before .before .before .before .pre .1 .fact)
-
-search-holds : tie.Need-search-holds Inv-loop μ-loop Inv-search μ-search
-search-holds c = omega arith
-
-mul-at : tie.Need-mul-at Inv-loop μ-loop Inv-search μ-search
-mul-at c = omega (arith, few c)
-
-element-copy-out-at : tie.Need-element-copy-out-at Inv-loop μ-loop Inv-search μ-search
-element-copy-out-at c = few c
-
 may-serve-requires : tie.Need-may-serve-requires Inv-loop μ-loop Inv-search μ-search
 may-serve-requires c κs =
     let s = asked (c .before) in
     let k = inside (c .before) in
     (s .pre .0 .stands _ k, s .pre .0 .short, s .pre .1 .start, λ l a. symbols-fit _ _ _ _ _ _ (s .pre .0) _ k 0 l a .0)
-
-add-p : tie.Need-add-p Inv-loop μ-loop Inv-search μ-search
-add-p c = omega (arith, few (c .before .before .before))
-
-search-less : tie.Need-search-less Inv-loop μ-loop Inv-search μ-search
-search-less c = omega (arith, inside (c .before .before .before))
 
 search-again : tie.Need-search-again Inv-loop μ-loop Inv-search μ-search
 search-again c =
@@ -67,19 +49,18 @@ search-again c =
     let s = asked r in
     rule-after _ _ _ _ _ _ (s .pre .0) _ _ _ _ (s .pre .1) _ (r .search .inv) _ refl (λ e v. c .before .may-serve .ensures .fails (not-true _ (c .if1 .taken)) e _ (s .pre .0 .work .rows) (λ l. symbols-known _ _ _ _ _ _ (s .pre .0) _ (inside r) 0 l) _ v)
 
-rule-symbols-requires : tie.Need-rule-symbols-requires Inv-loop μ-loop Inv-search μ-search
-rule-symbols-requires c κs = let r = c .before .before .before in asked r .pre .0 .stands _ (inside r)
-
 sets-before-requires : tie.Need-sets-before-requires Inv-loop μ-loop Inv-search μ-search
 sets-before-requires c κs =
-    let r = c .before .before .before .before in
+    let m = c .before .before in
+    let r = m .before .before in
     let s = asked r in
     let k = inside r in
     rw (c .rule-symbols .ensures) (s .pre .0 .short, node-rises _ _ _ _ _ _ (s .pre .0) _ _ _ _ (s .pre .1), s .pre .1 .end, symbols-few _ _ _ _ _ _ (s .pre .0) _ k, symbols-fit _ _ _ _ _ _ (s .pre .0) _ k)
 
 loop-holds : tie.Need-loop-holds Inv-loop μ-loop Inv-search μ-search
 loop-holds c =
-    let s = asked (c .before .before .before .before .before) in
+    let m = c .before .before .before in
+    let s = asked (m .before .before) in
     turn-begin _ _ (s .pre .0 .proper) _ _ _ _ (s .pre .0 .short) (s .pre .1 .end)
 
 -- symbol d is one of at most 8
@@ -94,20 +75,8 @@ fewer c =
     let k : l .loop .d < length (now (l .before .before .rule-symbols .result)) = omega (arith, l .loop .inv .low) in
     (k, lt-of-lt-of-le k (rw (l .before .before .rule-symbols .ensures) (symbols-few _ _ _ _ _ _ (s .pre .0) _ (inside (here l)))))
 
-shared-slice-read-symbol : tie.Need-shared-slice-read-symbol Inv-loop μ-loop Inv-search μ-search
-shared-slice-read-symbol c = fewer (c .before) .0
-
 cast-symbol : tie.Need-cast-symbol Inv-loop μ-loop Inv-search μ-search
 cast-symbol c = omega (arith, c .shared-slice-known5 .given (c .before .before .before .loop .d))
-
-add-d : tie.Need-add-d Inv-loop μ-loop Inv-search μ-search
-add-d c = omega (arith, fewer (c .before) .1)
-
-mul-first-end : tie.Need-mul-first-end Inv-loop μ-loop Inv-search μ-search
-mul-first-end c = omega (arith, fewer (c .before) .1)
-
-array-read-first-end : tie.Need-array-read-first-end Inv-loop μ-loop Inv-search μ-search
-array-read-first-end c = omega (arith, fewer (c .before) .1)
 
 first-end-requires : tie.Need-first-end-requires Inv-loop μ-loop Inv-search μ-search
 first-end-requires c κs =
@@ -117,30 +86,16 @@ first-end-requires c κs =
     let m = turn-inside _ _ (s .pre .0 .proper) _ _ _ _ (s .pre .0 .short) (s .pre .1 .end) _ _ _ (l .loop .inv) (s .pre .1 .start) (c .before .before .loop-test .taken) in
     (s .pre .0 .short, m, λ x y. le-trans (l .before .sets-before .ensures .inside _ x y) (s .pre .1 .end), (rw (← e) at (symbols-fit _ _ _ _ _ _ (s .pre .0) _ (inside (here l)))) _ (fewer (c .before) .0))
 
-mul-ends : tie.Need-mul-ends Inv-loop μ-loop Inv-search μ-search
-mul-ends c = omega (arith, fewer (c .before .before) .1)
-
-array-write-ends : tie.Need-array-write-ends Inv-loop μ-loop Inv-search μ-search
-array-write-ends c = omega (arith, fewer (c .before .before) .1)
-
-loop-less : tie.Need-loop-less Inv-loop μ-loop Inv-search μ-search
-loop-less c = omega (arith, fewer (c .before .before) .0)
-
 loop-again : tie.Need-loop-again Inv-loop μ-loop Inv-search μ-search
 loop-again c =
-    let l = c .before .before .before .before in
+    let o = c .before .before in
+    let l = o .before .before in
     let s = asked (here l) in
     let e = l .before .before .rule-symbols .ensures in
-    let k = fewer (c .before .before) in
+    let k = fewer o in
     let known = rw (← e) at (symbols-known _ _ _ _ _ _ (s .pre .0) _ (inside (here l))) in
-    turn-next _ _ (s .pre .0 .proper) _ _ _ _ (s .pre .0 .short) (s .pre .1 .end) _ _ _ (l .loop .inv) _ _ (k .0) (c .before .before .before .loop-test .taken)
+    turn-next _ _ (s .pre .0 .proper) _ _ _ _ (s .pre .0 .short) (s .pre .1 .end) _ _ _ (l .loop .inv) _ _ (k .0) (o .before .loop-test .taken)
     (c .first-end .ensures _ (s .pre .0 .work) (known _ (k .0))) (rw add-one (l .before .sets-before .ensures .exact _ (s .pre .0 .work) known _ (omega arith) (k .0))) (k .1)
-
-add-p-2 : tie.Need-add-p-2 Inv-loop μ-loop Inv-search μ-search
-add-p-2 c = omega (arith, few (here (c .before)))
-
-search-less-2 : tie.Need-search-less-2 Inv-loop μ-loop Inv-search μ-search
-search-less-2 c = omega (arith, inside (here (c .before)))
 
 search-again-2 : tie.Need-search-again-2 Inv-loop μ-loop Inv-search μ-search
 search-again-2 c =
@@ -167,28 +122,26 @@ search-spec =
     μ-loop
     Inv-search
     μ-search
-    sub-h
-    search-holds
-    mul-at
-    element-copy-out-at
+    (λ c. let k = c .before in omega (arith, k .before .before .before .pre .1 .fact))
+    (λ c. omega arith) (λ c. omega (arith, few c))
+    few
     may-serve-requires
-    add-p
-    search-less
+    (λ c. omega (arith, few (c .before .before .before)))
+    (λ c. omega (arith, inside (c .before .before .before)))
     search-again
-    rule-symbols-requires
+    (λ c κs. let r = c .before .before .before in asked r .pre .0 .stands _ (inside r))
     sets-before-requires
     loop-holds
-    shared-slice-read-symbol
+    (λ c. fewer (c .before) .0)
     cast-symbol
-    add-d
-    mul-first-end
-    array-read-first-end
+    (λ c. omega (arith, fewer (c .before) .1)) (λ c. omega (arith, fewer (c .before) .1))
+    (λ c. omega (arith, fewer (c .before) .1))
     first-end-requires
-    mul-ends
-    array-write-ends
-    loop-less
+    (λ c. omega (arith, fewer (c .before .before) .1))
+    (λ c. omega (arith, fewer (c .before .before) .1))
+    (λ c. omega (arith, fewer (c .before .before) .0))
     loop-again
-    add-p-2
-    search-less-2
+    (λ c. omega (arith, few (here (c .before))))
+    (λ c. omega (arith, inside (here (c .before))))
     search-again-2
     returns)

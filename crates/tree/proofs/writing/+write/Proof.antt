@@ -1,5 +1,5 @@
 -- `tree::writing::write` meets its contract; the depth that is handed in falls at each call. The loop's invariant: the first d children are written.
-use Prim.Native.Nat.{ℕ, _+_, _-_, _<_}
+use Prim.Native.Nat.{ℕ, _+_, _-_, _≤_, _<_}
 use mathlib.Core.Path.{_≡_, _∙_}
 use mathlib.Core.Logic.{⊎-elim}
 use mathlib.Core.List.{_∷_}
@@ -13,7 +13,7 @@ use borrow.Fn.PlainCycle.{Measures, is, falls, and}
 use Rattle.derivation.specs.Node.{ruleNode}
 use Rattle.derivation.specs.computed.Shown.{shown}
 use Rattle.grammar.specs.Given.{grammarGiven}
-use Rattle.tree.specs.Bytes.{bytes}
+use Rattle.tree.specs.Bytes.{nodeBytes, bytes, wrote}
 use Rattle.tree.proofs.TurnLaws.{NextChild, found-inside, turn-few, turn-fit, turn-shown, turn-child, child-node}
 use Rattle.tree.proofs.WriteLaws.{rowFrom, WriteTurn, root-room, turn-begin, turn-long, token-room, token-written, category-room, category-written, turn-end}
 use Rattle.tree.proofs.writing.write.Reads as write
@@ -85,6 +85,18 @@ module _ (t : ℕ) where
       let p = asked r .pre .1 in
       turn-shown _ _ _ _ _ _ (p .0) _ _ _ _ (p .1) _ (r .search .ensures) _ (c .rule-symbols .ensures)
 
+  -- the node's own bytes are written, and all that is shown of it has room
+  begun : (n : lts.After-put-node (claims t) (at t) write.Post Inv-loop μ-loop) →
+      let r = searched (n .before .before .before) in
+      let a = asked r .args in
+      let w = n .put-node in
+      (a .at + length (bytes (shown (grammarGiven (now (a .g))) (now (a .line)) (a .category) (a .start) (a .end))) ≤ length (now (a .out))) × (w .result ≡ a .at + 4) × (w .last .0 ≡ wrote (now (a .out)) (a .at) (nodeBytes (ruleNode (r .search .result .rule) (a .start) (a .end))))
+  begun n = (asked (searched (n .before .before .before)) .pre .1 .2, n .put-node .ensures .0, rw (n .before .rule-node .ensures) at (n .put-node .ensures .1))
+
+  -- the turn, from where the child's ends are read
+  abbrev turn : lts.After-e (claims t) (at t) write.Post Inv-loop μ-loop → lts.In-loop (claims t) (at t) write.Post Inv-loop μ-loop
+  turn c = c .before .before .before
+
   -- symbol d is one of at most 8
   few : (c : lts.In-loop (claims t) (at t) write.Post Inv-loop μ-loop) → c .before .loop .d < 8
   few c =
@@ -105,15 +117,6 @@ module _ (t : ℕ) where
       let p = asked r .pre .1 in
       turn-child _ _ _ _ _ _ (p .0) _ _ _ _ (p .1) _ (r .search .ensures) _ (y .rule-symbols .ensures) _ (c .loop-test .taken)
 
-  search-requires : lts.Need-search-requires (claims t) (at t) write.Post Inv-loop μ-loop
-  search-requires c κs = let p = c .before .before .before .before .before .pre .1 in (p .0, p .1)
-
-  mul-rule-symbols : lts.Need-mul-rule-symbols (claims t) (at t) write.Post Inv-loop μ-loop
-  mul-rule-symbols c = omega (arith, inside c)
-
-  element-copy-out-rule-symbols : lts.Need-element-copy-out-rule-symbols (claims t) (at t) write.Post Inv-loop μ-loop
-  element-copy-out-rule-symbols c = inside c
-
   rule-symbols-requires : lts.Need-rule-symbols-requires (claims t) (at t) write.Post Inv-loop μ-loop
   rule-symbols-requires c κs = let r = c .before in asked r .pre .1 .0 .stands _ (found-inside _ _ _ _ _ _ (asked r .pre .1 .0) _ _ _ _ (asked r .pre .1 .1) _ (r .search .ensures))
 
@@ -131,49 +134,28 @@ module _ (t : ℕ) where
   loop-holds : lts.Need-loop-holds (claims t) (at t) write.Post Inv-loop μ-loop
   loop-holds c =
       let n = c .before .before in
-      let y = n .before .before .before in
-      turn-begin _ _ _ _ _ _ _ _ _ _ (shows y) (asked (searched y) .pre .1 .2) _ _ (n .put-node .ensures .0) (rw (n .before .rule-node .ensures) at (n .put-node .ensures .1))
-
-  shared-slice-read-symbol : lts.Need-shared-slice-read-symbol (claims t) (at t) write.Post Inv-loop μ-loop
-  shared-slice-read-symbol c = search needs
-
-  mul-m : lts.Need-mul-m (claims t) (at t) write.Post Inv-loop μ-loop
-  mul-m c = omega (arith, few (c .before))
-
-  element-copy-out-m : lts.Need-element-copy-out-m (claims t) (at t) write.Post Inv-loop μ-loop
-  element-copy-out-m c = omega (arith, few (c .before))
-
-  add-e : lts.Need-add-e (claims t) (at t) write.Post Inv-loop μ-loop
-  add-e c = omega (arith, few (c .before .before))
-
-  mul-e : lts.Need-mul-e (claims t) (at t) write.Post Inv-loop μ-loop
-  mul-e c = omega (arith, few (c .before .before))
-
-  element-copy-out-e : lts.Need-element-copy-out-e (claims t) (at t) write.Post Inv-loop μ-loop
-  element-copy-out-e c = omega (arith, few (c .before .before))
+      let b = begun n in
+      turn-begin _ _ _ _ _ _ _ _ _ _ (shows (n .before .before .before)) (b .0) _ _ (b .1) (b .2)
 
   token-node-requires : lts.Need-token-node-requires (claims t) (at t) write.Post Inv-loop μ-loop
   token-node-requires c κs =
-      let i = c .before .before .before .before .before in
+      let i = turn (c .before .before) in
       let short = asked (searched (symbols (i .before))) .pre .1 .0 .short in
       (le-trans (next i .start) short, le-trans (next i .inside) short)
 
   put-node-requires-2 : lts.Need-put-node-requires-2 (claims t) (at t) write.Post Inv-loop μ-loop
   put-node-requires-2 c κs =
-      let i = c .before .before .before .before .before .before in
+      let i = turn (c .before .before .before) in
       let l = i .before in
-      let n = l .before .before .before in
-      token-room _ _ _ _ _ _ _ _ _ _ (shows (symbols l)) (asked (searched (symbols l)) .pre .1 .2) _ _ (n .put-node .ensures .0) (rw (n .before .rule-node .ensures) at (n .put-node .ensures .1)) _ _ _ _ _ (i .loop-test .taken) (next i) (l .loop .inv) (c .before .before .if1 .taken)
+      let b = begun (l .before .before .before) in
+      token-room _ _ _ _ _ _ _ _ _ _ (shows (symbols l)) (b .0) _ _ (b .1) (b .2) _ _ _ _ _ (i .loop-test .taken) (next i) (l .loop .inv) (c .before .before .if1 .taken)
 
   cast-b : lts.Need-cast-b (claims t) (at t) write.Post Inv-loop μ-loop
   cast-b c = let x = c .before .before .before in omega (arith, x .shared-slice-known5 .given (x .before .before .loop .d))
 
-  sub-b : lts.Need-sub-b (claims t) (at t) write.Post Inv-loop μ-loop
-  sub-b c = search needs
-
   depth-at-requires : lts.Need-depth-at-requires (claims t) (at t) write.Post Inv-loop μ-loop
   depth-at-requires c κs =
-      let i = c .before .before .before .before in
+      let i = turn (c .before) in
       let y = symbols (i .before) in
       let r = searched y in
       let p = asked r .pre .1 in
@@ -182,67 +164,61 @@ module _ (t : ℕ) where
   write-requires : lts.Need-write-requires (claims t) (at t) write.Post Inv-loop μ-loop
   write-requires c κs =
       let o = c .before .before in
-      let i = o .before .before .before .before in
+      let i = turn (o .before) in
       let l = i .before in
       let r = searched (symbols l) in
       let p = asked r .pre in
       let e = c .before .depth-at .ensures in
-      let n = l .before .before .before in
+      let b = begun (l .before .before .before) in
       let x = child-node _ _ _ _ _ _ (p .1 .0) _ _ _ _ (p .1 .1) _ (r .search .ensures) _ (symbols l .rule-symbols .ensures) _ (i .loop-test .taken) (o .if1 .left) in
-      (omega (arith, e, x .1, p .0), (p .1 .0, rw e (x .0), category-room _ _ _ _ _ _ _ _ _ _ (shows (symbols l)) (asked (searched (symbols l)) .pre .1 .2) _ _ (n .put-node .ensures .0) (rw (n .before .rule-node .ensures) at (n .put-node .ensures .1)) _ _ _ _ _ (i .loop-test .taken) (next i) (l .loop .inv) (o .if1 .left)))
-
-  add-d : lts.Need-add-d (claims t) (at t) write.Post Inv-loop μ-loop
-  add-d c = omega (arith, few (c .before .before .before .before))
-
-  loop-less : lts.Need-loop-less (claims t) (at t) write.Post Inv-loop μ-loop
-  loop-less c = omega (arith, c .before .before .before .before .loop-test .taken)
+      (omega (arith, e, x .1, p .0), (p .1 .0, rw e (x .0), category-room _ _ _ _ _ _ _ _ _ _ (shows (symbols l)) (b .0) _ _ (b .1) (b .2) _ _ _ _ _ (i .loop-test .taken) (next i) (l .loop .inv) (o .if1 .left)))
 
   loop-again : lts.Need-loop-again (claims t) (at t) write.Post Inv-loop μ-loop
   loop-again c =
-      let i = c .before .before .before .before in
+      let i = turn (c .before) in
       let l = i .before in
-      let n = l .before .before .before in
+      let b = begun (l .before .before .before) in
       let k = i .loop-test .taken in
       ⊎-elim
-      (λ w. token-written _ _ _ _ _ _ _ _ _ _ (shows (symbols l)) (asked (searched (symbols l)) .pre .1 .2) _ _ (n .put-node .ensures .0) (rw (n .before .rule-node .ensures) at (n .put-node .ensures .1)) _ _ _ _ _ k (next i) (l .loop .inv) (w .0 .taken) (w .7 ∙ w .3 .ensures .0) (w .6 ∙ (rw (w .2 .ensures) at (w .3 .ensures .1))))
-      (λ w. category-written _ _ _ _ _ _ _ _ _ _ (shows (symbols l)) (asked (searched (symbols l)) .pre .1 .2) _ _ (n .put-node .ensures .0) (rw (n .before .rule-node .ensures) at (n .put-node .ensures .1)) _ _ _ _ _ k (next i) (l .loop .inv) (w .0 .left) (w .7 ∙ w .3 .ensures .0) (w .6 ∙ w .3 .ensures .1))
+      (λ w. token-written _ _ _ _ _ _ _ _ _ _ (shows (symbols l)) (b .0) _ _ (b .1) (b .2) _ _ _ _ _ k (next i) (l .loop .inv) (w .0 .taken) (w .7 ∙ w .3 .ensures .0) (w .6 ∙ (rw (w .2 .ensures) at (w .3 .ensures .1))))
+      (λ w. category-written _ _ _ _ _ _ _ _ _ _ (shows (symbols l)) (b .0) _ _ (b .1) (b .2) _ _ _ _ _ k (next i) (l .loop .inv) (w .0 .left) (w .7 ∙ w .3 .ensures .0) (w .6 ∙ w .3 .ensures .1))
       (c .if1 .came)
 
   same-length : lts.Need-same-length (claims t) (at t) write.Post Inv-loop μ-loop
   same-length c =
       let l = c .before in
-      let n = l .before .before .before in
-      turn-long _ _ _ _ _ _ _ _ _ _ (shows (symbols l)) (asked (searched (symbols l)) .pre .1 .2) _ _ (n .put-node .ensures .0) (rw (n .before .rule-node .ensures) at (n .put-node .ensures .1)) (l .loop .inv)
+      let b = begun (l .before .before .before) in
+      turn-long _ _ _ _ _ _ _ _ _ _ (shows (symbols l)) (b .0) _ _ (b .1) (b .2) (l .loop .inv)
 
   returns : lts.Need-returns (claims t) (at t) write.Post Inv-loop μ-loop
   returns c =
       let l = c .before in
-      let n = l .before .before .before in
-      turn-end _ _ _ _ _ _ _ _ _ _ (shows (symbols l)) (asked (searched (symbols l)) .pre .1 .2) _ _ (n .put-node .ensures .0) (rw (n .before .rule-node .ensures) at (n .put-node .ensures .1)) (c .loop-test .left) (l .loop .inv)
+      let b = begun (l .before .before .before) in
+      turn-end _ _ _ _ _ _ _ _ _ _ (shows (symbols l)) (b .0) _ _ (b .1) (b .2) (c .loop-test .left) (l .loop .inv)
 
 pub +write-spec : {M : Type 1} → statement M
 +write-spec = close μ λ t. lts.spec (claims t) (at t) write.Post Inv-loop μ-loop
-    (search-requires t)
-    (mul-rule-symbols t)
-    (element-copy-out-rule-symbols t)
+    (λ c κs. let k = c .before .before in let p = k .before .before .before .pre .1 in (p .0, p .1))
+    (λ c. omega (arith, inside t c))
+    (inside t)
     (rule-symbols-requires t)
     (rule-node-requires t)
     (put-node-requires t)
     (loop-holds t)
-    (shared-slice-read-symbol t)
-    (mul-m t)
-    (element-copy-out-m t)
-    (add-e t)
-    (mul-e t)
-    (element-copy-out-e t)
+    (search needs)
+    (λ c. omega (arith, few t (c .before)))
+    (λ c. omega (arith, few t (c .before)))
+    (λ c. omega (arith, few t (c .before .before)))
+    (λ c. omega (arith, few t (c .before .before)))
+    (λ c. omega (arith, few t (c .before .before)))
     (token-node-requires t)
     (put-node-requires-2 t)
     (cast-b t)
-    (sub-b t)
+    (search needs)
     (depth-at-requires t)
     (write-requires t)
-    (add-d t)
-    (loop-less t)
+    (λ c. omega (arith, few t (turn t (c .before))))
+    (λ c. omega (arith, turn t (c .before) .loop-test .taken))
     (loop-again t)
     (same-length t)
     (returns t)
