@@ -77,6 +77,10 @@ module _ {g line : List ℕ} {asked : Asked} {words numbers : ℕ} {s : Sections
   pub memory-is : (chartSize (s .categories) (length line) ≤ words) × (depthsSize (s .categories) (length line) ≤ numbers)
   memory-is = work-passed _ _ _ _ (both-passed (askedCheck (s .categories) (length line) asked) _ (both-passed (lineCheck (s .classes) line) _ (passes .rest) .1) .1)
 
+  -- so the memory can be filled
+  pub fillable : Sectioned g s × IsLine (s .classes) line × (chartSize (s .categories) (length line) ≤ words) × (depthsSize (s .categories) (length line) ≤ numbers)
+  fillable = (sections, line-is, memory-is .0, memory-is .1)
+
   pub categories-few : s .categories ≤ 32
   categories-few = whole g s sections .categories-high
 

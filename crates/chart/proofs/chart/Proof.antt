@@ -12,7 +12,7 @@ use Rattle.checks.specs.Memory.{chartSize}
 use Rattle.checks.proofs.Laws.{chart-small}
 use Rattle.grammar.specs.Reading.{readOf}
 use Rattle.grammar.specs.Given.{grammarGiven}
-use Rattle.chart.proofs.CheckLaws.{Passes, checked-refused, checked-accepted, sections, line-is, memory-is, categories-few}
+use Rattle.chart.proofs.CheckLaws.{Passes, checked-refused, checked-accepted, line-is, memory-is, fillable, categories-few}
 use Rattle.chart.proofs.OutcomeLaws.{chart-turned, chart-filled}
 use Rattle.chart.proofs.chart.Statement.{statement}
 use Rattle.chart.proofs.chart.Tie as tie
@@ -42,9 +42,6 @@ returns c =
     let a = origin checks .args in
     chart-turned _ _ _ _ _ (checked-refused (readOf (now (a .g))) (grammarGiven (now (a .g))) (now (a .line)) Nothing (now (a .words)) (now (a .depths)) Passed Passed _ (sym (checks .checked .ensures) ∙ c .before .refusal .given .1))
 
-fill-requires : tie.Need-fill-requires
-fill-requires c κs = let p = passes (c .before .before .before) in (sections p, line-is p, memory-is p .0, memory-is p .1)
-
 count-ends-requires : tie.Need-count-ends-requires
 count-ends-requires c κs =
     let f = filled (c .before .before) in
@@ -60,7 +57,7 @@ chart-spec =
     (search needs) (search needs)
     returns
     (search needs)
-    fill-requires
+    (λ c κs. fillable (passes (c .before .before .before)))
     (search needs)
     (λ c. omega (arith, small (asked (filled (c .before .before)))))
     count-ends-requires

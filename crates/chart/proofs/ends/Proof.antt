@@ -13,7 +13,7 @@ use Rattle.checks.proofs.Laws.{chart-small, start-passed}
 use Rattle.grammar.specs.Reading.{readOf}
 use Rattle.grammar.specs.Given.{grammarGiven}
 use Rattle.filling.proofs.RowLaws.{row-inside}
-use Rattle.chart.proofs.CheckLaws.{Passes, checked-refused, checked-accepted, sections, line-is, asked-is, memory-is, categories-few}
+use Rattle.chart.proofs.CheckLaws.{Passes, checked-refused, checked-accepted, line-is, asked-is, memory-is, fillable, categories-few}
 use Rattle.chart.proofs.OutcomeLaws.{ends-turned, ends-found}
 use Rattle.chart.proofs.ends.Statement.{statement}
 use Rattle.chart.proofs.ends.Tie as tie
@@ -53,9 +53,6 @@ returns c =
     let asked = Start (a .category) (a .start) in
     ends-turned _ _ _ _ _ _ _ (checked-refused (readOf (now (a .g))) (grammarGiven (now (a .g))) (now (a .line)) asked (now (a .words)) (now (a .depths)) Passed Passed _ (sym (checks .checked .ensures) ∙ c .before .refusal .given .1))
 
-fill-requires : tie.Need-fill-requires
-fill-requires c κs = let p = passes (c .before .before .before) in (sections p, line-is p, memory-is p .0, memory-is p .1)
-
 slice-read-row : tie.Need-slice-read-row
 slice-read-row c =
     let f = filled (c .before) in
@@ -76,7 +73,7 @@ ends-spec =
     (search needs) (search needs)
     returns
     (search needs)
-    fill-requires
+    (λ c κs. fillable (passes (c .before .before .before)))
     (search needs)
     (λ c. omega (arith, small (asked (filled c))))
     (λ c. omega (arith, small (asked (filled c))))

@@ -9,7 +9,7 @@ use Rattle.refusals.specs.declared.Check.the-variants.{Passed}
 use Rattle.checks.specs.declared.Asked.the-variants.{Nothing}
 use Rattle.grammar.specs.Reading.{readOf}
 use Rattle.grammar.specs.Given.{grammarGiven}
-use Rattle.chart.proofs.CheckLaws.{Passes, checked-refused, checked-accepted, sections, line-is, memory-is}
+use Rattle.chart.proofs.CheckLaws.{Passes, checked-refused, checked-accepted, fillable}
 use Rattle.forest.proofs.PlanLaws.{plan-turned, sections-are, charted, first-stands, plan-refused, plan-found, plan-empty}
 use Rattle.forest.proofs.prepare.Statement.{statement}
 use Rattle.forest.proofs.prepare.Tie as tie
@@ -37,9 +37,6 @@ returns c =
     let checks = c .before .before .before in
     let a = origin checks .args in
     plan-turned _ _ _ _ _ _ _ (checked-refused (readOf (now (a .g))) (grammarGiven (now (a .g))) (now (a .line)) Nothing (now (a .words)) (now (a .depths)) Passed Passed _ (sym (checks .checked .ensures) ∙ c .before .refusal .given .1))
-
-fill-requires : tie.Need-fill-requires
-fill-requires c κs = let p = passes (c .before .before .before) in (sections p, line-is p, memory-is p .0, memory-is p .1)
 
 count-records-requires : tie.Need-count-records-requires
 count-records-requires c κs =
@@ -81,7 +78,7 @@ prepare-spec =
     (search needs) (search needs)
     returns
     (search needs)
-    fill-requires
+    (λ c κs. fillable (passes (c .before .before .before)))
     count-records-requires
     (search needs) (search needs)
     returns-2

@@ -9,7 +9,7 @@ use Rattle.checks.specs.declared.Asked.the-variants.{Nothing}
 use Rattle.grammar.specs.Reading.{readOf}
 use Rattle.grammar.specs.Given.{grammarGiven}
 use Rattle.grammar.proofs.Encoded.{category-count}
-use Rattle.chart.proofs.CheckLaws.{Passes, checked-refused, checked-accepted, sections, line-is, memory-is}
+use Rattle.chart.proofs.CheckLaws.{Passes, checked-refused, checked-accepted, sections, line-is, memory-is, fillable}
 use Rattle.marks.specs.Outcome.{marksRoom}
 use Rattle.marks.proofs.OutcomeLaws.{marks-turned, marks-no-room, marks-answered}
 use Rattle.marks.proofs.marks.Statement.{statement}
@@ -36,9 +36,6 @@ returns c =
     let a = origin checks .args in
     let room = marksRoom (now (a .line)) (now (a .marks)) in
     marks-turned _ _ _ _ _ _ (checked-refused (readOf (now (a .g))) (grammarGiven (now (a .g))) (now (a .line)) Nothing (now (a .words)) (now (a .depths)) Passed room _ (sym (checks .checked .ensures) ∙ c .before .refusal .given .1))
-
-fill-requires : tie.Need-fill-requires
-fill-requires c κs = let p = passes (c .before .before .before) in (sections p, line-is p, memory-is p .0, memory-is p .1)
 
 returns-2 : tie.Need-returns-2
 returns-2 c =
@@ -67,7 +64,7 @@ marks-spec =
     (search needs) (search needs)
     returns
     (search needs)
-    fill-requires
+    (λ c κs. fillable (passes (c .before .before .before)))
     (search needs) (search needs)
     returns-2
     mark-tokens-requires

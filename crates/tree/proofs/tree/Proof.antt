@@ -6,7 +6,7 @@ use Rattle.checks.specs.declared.Asked.the-variants.{Span}
 use Rattle.checks.proofs.Laws.{span-passed}
 use Rattle.grammar.specs.Reading.{readOf}
 use Rattle.grammar.specs.Given.{grammarGiven}
-use Rattle.chart.proofs.CheckLaws.{Passes, checked-refused, checked-accepted, sections, line-is, asked-is, memory-is}
+use Rattle.chart.proofs.CheckLaws.{Passes, checked-refused, checked-accepted, line-is, asked-is, memory-is, fillable}
 use Rattle.refusals.specs.declared.Check.the-variants.{Passed}
 use Rattle.tree.proofs.OutcomeLaws.{tree-turned, filled-kept, filled-rows, tree-shown}
 use borrow.Author.Needs.{needs}
@@ -38,9 +38,6 @@ returns c =
     let G = grammarGiven (now (a .g)) in
     tree-turned _ _ _ _ _ _ _ _ _ (checked-refused (readOf (now (a .g))) G (now (a .line)) asked (now (a .words)) (now (a .depths)) Passed Passed _ (sym (checks .checked .ensures) ∙ c .before .refusal .given .1))
 
-fill-requires : tie.Need-fill-requires
-fill-requires c κs = let p = passes (c .before .before .before) in (sections p, line-is p, memory-is p .0, memory-is p .1)
-
 show-requires : tie.Need-show-requires
 show-requires c κs =
     let p = passes (asked (filled c)) in
@@ -60,7 +57,7 @@ tree-spec =
     (search needs) (search needs)
     returns
     (search needs)
-    fill-requires
+    (λ c κs. fillable (passes (c .before .before .before)))
     show-requires
     (search needs) (search needs) (search needs)
     returns-2)
