@@ -1,5 +1,5 @@
 -- What Chart and Ends lead to on the document's job and on another line of its length, with work memory of any old contents.
-use Prim.Native.Nat.{ℕ, zero, suc, _+_, _*_, _≤_, _<_}
+use Prim.Native.Nat.{ℕ, zero, suc, _+_, _*_, _<_}
 use mathlib.Core.Path.{_≡_, refl, _∙_}
 use mathlib.Core.Bool.{cond}
 use mathlib.Core.List.{List}
