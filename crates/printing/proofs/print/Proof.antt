@@ -28,20 +28,31 @@ Inv-loop input out₀ progress₀ out progress =
 abbrev μ-loop : tie.MeasureT-loop
 μ-loop input out₀ progress₀ out progress = length (pieces input) - progress .asked
 
--- a turn of the loop: there is a piece to ask for, and the row then holds it too
-there : (c : tie.After-print-next Inv-loop μ-loop) → c .before .before .before .loop .progress .asked < length (pieces (c .before .before .before .before .before .before .args .input .now))
-there c = ltb-true _ _ (sym (c .before .before .before .loop .inv .2) ∙ c .before .before .loop-test .taken)
+-- where the function begins, a turn of the loop, and the piece that is asked for in it
+abbrev start : tie.At-loop Inv-loop μ-loop → tie.Start Inv-loop μ-loop
+start l = l .before .before .before
+
+abbrev here : tie.After-print-next Inv-loop μ-loop → tie.At-loop Inv-loop μ-loop
+here c = c .before .before .before
+
+abbrev turn : tie.After-struct-known Inv-loop μ-loop → tie.After-print-next Inv-loop μ-loop
+turn c = c .before .before .before
+
+-- in a turn there is a piece to ask for, and the row then holds it too
+there : (c : tie.After-print-next Inv-loop μ-loop) → here c .loop .progress .asked < length (pieces (start (here c) .args .input .now))
+there c = ltb-true _ _ (sym (here c .loop .inv .2) ∙ c .before .before .loop-test .taken)
 
 row-is :
     (c : tie.After-print-next Inv-loop μ-loop) →
-    let a = c .before .before .before .before .before .before .args in
+    let a = start (here c) .args in
     c .print-next .last .1 .1 .0 ≡ wroteEach (a .out .now) (take (c .print-next .result .asked) (pieces (a .input .now)))
 row-is c =
-    let a = c .before .before .before .before .before .before .args in
-    let before = c .before .before .before .loop in
+    let a = start (here c) .args in
+    let before = here c .loop in
     let next = c .print-next .ensures in
     let piece = getD (pieces (a .input .now)) (before .progress .asked) [] in
-    rw (next .0, add-one) (next .1 .1 ∙ ap (λ (row : List ℕ). wrote row 0 piece) (before .inv .3) ∙ wrote-next _ _ _ (there c))
+    next .1 .1 ∙ ap (λ (row : List ℕ). wrote row 0 piece) (before .inv .3) ∙ wrote-next _ _ _ (there c)
+    ∙ ap (λ (n : ℕ). wroteEach (a .out .now) (take n (pieces (a .input .now)))) (sym (next .0 ∙ add-one _))
 
 loop-holds : tie.Need-loop-holds Inv-loop μ-loop
 unfolding wroteEach
@@ -50,35 +61,29 @@ loop-holds c = let some = pieces-some (c .before .before .args .input .now) in (
 print-next-requires : tie.Need-print-next-requires Inv-loop μ-loop
 print-next-requires c κs = let inv = c .before .before .loop .inv in (omega (arith, inv .4), (ltb-true _ _ (sym (inv .2) ∙ c .before .loop-test .taken), inv .0))
 
-same-length : tie.Need-same-length Inv-loop μ-loop
-same-length c = search needs
-
 returns : tie.Need-returns Inv-loop μ-loop
 returns c =
-    let turn = c .before .before .before .before in
+    let n = turn (c .before) in
     record {
       whole = λ written. absurd (true≢false (sym written ∙ not-true _ (c .if1 .taken)));
-      some = omega (arith, turn .print-next .ensures .0);
-      within = omega (arith, there turn, turn .print-next .ensures .0);
-      more = turn .print-next .ensures .1 .0;
-      holds = row-is turn;
+      some = omega (arith, n .print-next .ensures .0);
+      within = omega (arith, there n, n .print-next .ensures .0);
+      more = n .print-next .ensures .1 .0;
+      holds = row-is n;
     }
 
 loop-less : tie.Need-loop-less Inv-loop μ-loop
-loop-less c = let turn = c .before .before .before .before in omega (arith, there turn, turn .print-next .ensures .0)
+loop-less c = let n = turn (c .before) in omega (arith, there n, n .print-next .ensures .0)
 
 loop-again : tie.Need-loop-again Inv-loop μ-loop
 loop-again c =
-    let turn = c .before .before .before .before in
-    (not-false _ (c .if1 .left), omega (arith, there turn, turn .print-next .ensures .0), turn .print-next .ensures .1 .0, row-is turn, omega arith)
-
-same-length-2 : tie.Need-same-length-2 Inv-loop μ-loop
-same-length-2 c = search needs
+    let n = turn (c .before) in
+    (not-false _ (c .if1 .left), omega (arith, there n, n .print-next .ensures .0), n .print-next .ensures .1 .0, row-is n, omega arith)
 
 returns-2 : tie.Need-returns-2 Inv-loop μ-loop
 returns-2 c =
     let inv = c .before .loop .inv in
-    let input = c .before .before .before .before .args .input .now in
+    let input = start (c .before) .args .input .now in
     let last = ltb-false (c .before .loop .progress .asked) (length (pieces input)) (sym (inv .2) ∙ c .loop-test .left) in
     record {
       whole = λ written. omega (arith, last, inv .1);
@@ -96,9 +101,9 @@ print-spec =
     μ-loop
     loop-holds
     print-next-requires
-    same-length
+    (search needs)
     returns
     loop-less
     loop-again
-    same-length-2
+    (search needs)
     returns-2)

@@ -8,23 +8,14 @@ use Rattle.report.proofs.PieceLaws.{pieces-few, yielded-within}
 use Rattle.printing.proofs.print_next.Statement.{statement}
 use Rattle.printing.proofs.print_next.Tie as tie
 
-write-piece-requires : tie.Need-write-piece-requires
-write-piece-requires c κs = search needs
-
 slice-reshare-prefix-write-all : tie.Need-slice-reshare-prefix-write-all
 slice-reshare-prefix-write-all c = yielded-within (c .before .before .write-piece .ensures)
 
 slice-aggregate-write-all : tie.Need-slice-aggregate-write-all
 slice-aggregate-write-all c = sym (length-take-le _ _ (yielded-within (c .before .before .before .write-piece .ensures)))
 
-write-all-requires : tie.Need-write-all-requires
-write-all-requires c κs = search needs
-
 add-t11 : tie.Need-add-t11
 add-t11 c = let start = c .before .before .before .before .before .before .before .before .before in omega (arith, pieces-few (start .args .input .now))
-
-same-length : tie.Need-same-length
-same-length c = search needs
 
 returns : tie.Need-returns
 returns c = let piece = c .before .before .before .before .before .write-piece .ensures in (refl, (rw add-one (piece .more), piece .holds))
@@ -33,10 +24,10 @@ pub print-next-spec : {M : Type 1} → statement M
 print-next-spec =
     tie.close
     (tie.spec
-    write-piece-requires
+    (search needs)
     slice-reshare-prefix-write-all
     slice-aggregate-write-all
-    write-all-requires
+    (search needs)
     add-t11
-    same-length
+    (search needs)
     returns)
