@@ -58,7 +58,7 @@ rowBefore (marks row) = row
 rowBefore (tree A i j row) = row
 rowBefore (forest rows) = rows
 
--- a result: what the answer tells, and what all lent memory then holds
+-- a result: what the answer tells, and what all that is lent to be written then holds; grammar and line are lent to be read, and nothing else is lent
 pub record Result (q : Query) : Type 0 where
   pub told : Told
   pub words : List ℕ
