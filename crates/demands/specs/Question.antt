@@ -43,15 +43,15 @@ numbers (tree A i j row) = A ∷ i ∷ j ∷ []
 numbers (forest rows) = []
 
 -- what the lent row is made of; Chart and Ends have none
-abbrev pub RowOf : Query → Type 0
-RowOf chart = Unit {0}
-RowOf (ends A i) = Unit {0}
-RowOf (marks row) = List ℕ
-RowOf (tree A i j row) = List ℕ
-RowOf (forest rows) = List Branch
+abbrev pub LentRow : Query → Type 0
+LentRow chart = Unit {0}
+LentRow (ends A i) = Unit {0}
+LentRow (marks row) = List ℕ
+LentRow (tree A i j row) = List ℕ
+LentRow (forest rows) = List Branch
 
 -- what it held on entry
-abbrev pub rowBefore : (q : Query) → RowOf q
+abbrev pub rowBefore : (q : Query) → LentRow q
 rowBefore chart = tt
 rowBefore (ends A i) = tt
 rowBefore (marks row) = row
@@ -63,7 +63,7 @@ pub record Result (q : Query) : Type 0 where
   pub told : Told
   pub words : List ℕ
   pub depths : List ℕ
-  pub row : RowOf q
+  pub row : LentRow q
 
 -- the question's own outcome allows this result
 abbrev pub Allowed : (x : Input) (q : Query) → Result q → Type 0
