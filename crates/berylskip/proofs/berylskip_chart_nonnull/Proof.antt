@@ -24,7 +24,8 @@ pub berylskip-chart-nonnull-spec : {M : Type 1} → statement M
 berylskip-chart-nonnull-spec =
     tie.close
     (tie.spec
-    (search needs) (search needs) (search needs) (search needs) (search needs) (search needs)
+    (λ c κs. search needs) (λ c. search needs) (λ c κs. search needs) (λ c. search needs) (λ c. search needs)
+    (λ c. search needs)
     returns
-    (search needs) (search needs)
+    (λ c. search needs) (λ c. search needs)
     returns-2)

@@ -20,4 +20,5 @@ returns-2 c =
     values-handed (now (a .records) ∷ []) (now (a .place)) _ (ap forestTold (c .before .answer2 .given .1))
 
 pub hand-records-spec : {M : Type 1} → statement M
-hand-records-spec = tie.close (tie.spec (search needs) (search needs) (search needs) returns returns-2)
+hand-records-spec =
+    tie.close (tie.spec (λ c. search needs) (λ c κs. search needs) (λ c. search needs) returns returns-2)

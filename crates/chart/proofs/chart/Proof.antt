@@ -54,12 +54,12 @@ pub chart-spec : {M : Type 1} → statement M
 chart-spec =
     tie.close
     (tie.spec
-    (search needs) (search needs)
+    (λ c κs. search needs) (λ c. search needs)
     returns
-    (search needs)
+    (λ c. search needs)
     (λ c κs. fillable (passes (c .before .before .before)))
-    (search needs)
+    (λ c. search needs)
     (λ c. omega (arith, small (asked (filled (c .before .before)))))
     count-ends-requires
-    (search needs) (search needs)
+    (λ c. search needs) (λ c. search needs)
     returns-2)

@@ -70,14 +70,14 @@ pub ends-spec : {M : Type 1} → statement M
 ends-spec =
     tie.close
     (tie.spec
-    (search needs) (search needs)
+    (λ c κs. search needs) (λ c. search needs)
     returns
-    (search needs)
+    (λ c. search needs)
     (λ c κs. fillable (passes (c .before .before .before)))
-    (search needs)
+    (λ c. search needs)
     (λ c. omega (arith, small (asked (filled c))))
     (λ c. omega (arith, small (asked (filled c))))
     (λ c. omega (arith, small (asked (filled c))))
     slice-read-row
-    (search needs) (search needs) (search needs) (search needs)
+    (λ c κs. search needs) (λ c κs. search needs) (λ c. search needs) (λ c. search needs)
     returns-2)

@@ -15,7 +15,7 @@ pub check-asked-spec : {M : Type 1} → statement M
 check-asked-spec =
     tie.close
     (tie.spec
-    (search needs) (search needs) (search needs) (search needs) (search needs)
+    (λ c. search needs) (λ c. search needs) (λ c κs. search needs) (λ c. search needs) (λ c κs. search needs)
     (λ c. search needs)
     returns-2
     returns-3)

@@ -16,4 +16,8 @@ returns-2 c = let a = c .before .args in sym (large-enough (chartSize (a .catego
 pub check-chart-spec : {M : Type 1} → statement M
 check-chart-spec =
     tie.close
-    (tie.spec (search needs) (λ c. omega (arith, chart-small _ _ (c .pre .0) (c .pre .1))) returns returns-2)
+    (tie.spec
+    (λ c. search needs)
+    (λ c. omega (arith, chart-small _ _ (c .pre .0) (c .pre .1)))
+    returns
+    returns-2)

@@ -17,9 +17,9 @@ pub check-depths-spec : {M : Type 1} → statement M
 check-depths-spec =
     tie.close
     (tie.spec
-    (search needs)
+    (λ c. search needs)
     (λ c. omega (arith, chart-small _ _ (c .pre .0) (c .pre .1)))
-    (search needs)
+    (λ c. search needs)
     (λ c. omega (arith, depths-small _ _ (c .pre .0) (c .pre .1)))
     returns
     returns-2)

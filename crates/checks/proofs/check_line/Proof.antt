@@ -42,9 +42,9 @@ check-line-spec =
     μ-loop
     returns
     loop-holds
-    (search needs)
+    (λ c. search needs)
     (λ c. omega (arith, c .shared-slice-known .given (c .before .before .loop .token)))
     returns-2
-    (search needs) (search needs)
+    (λ c. search needs) (λ c. search needs)
     loop-again
     returns-3)

@@ -28,4 +28,11 @@ returns-4 c =
 
 pub check-span-spec : {M : Type 1} → statement M
 check-span-spec =
-    tie.close (tie.spec (search needs) (search needs) returns (search needs) returns-2 returns-3 returns-4)
+    tie.close
+    (tie.spec
+    (λ c κs. search needs) (λ c. search needs)
+    returns
+    (λ c. search needs)
+    returns-2
+    returns-3
+    returns-4)

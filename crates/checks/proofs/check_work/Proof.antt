@@ -12,4 +12,8 @@ returns-2 c = simp (sym (c .before .before .before .check-chart .ensures) ∙ c 
 
 pub check-work-spec : {M : Type 1} → statement M
 check-work-spec =
-    tie.close (tie.spec (search needs) (search needs) (search needs) (search needs) returns returns-2)
+    tie.close
+    (tie.spec
+    (λ c κs. search needs) (λ c. search needs) (λ c. search needs) (λ c κs. search needs)
+    returns
+    returns-2)

@@ -98,6 +98,6 @@ next-spec =
     returns-2
     add-seek-record
     seek-record-requires
-    (search needs) (search needs)
+    (λ c. search needs) (λ c. search needs)
     returns-3
     returns-4)

@@ -75,15 +75,15 @@ pub prepare-spec : {M : Type 1} → statement M
 prepare-spec =
     tie.close
     (tie.spec
-    (search needs) (search needs)
+    (λ c κs. search needs) (λ c. search needs)
     returns
-    (search needs)
+    (λ c. search needs)
     (λ c κs. fillable (passes (c .before .before .before)))
     count-records-requires
-    (search needs) (search needs)
+    (λ c. search needs) (λ c. search needs)
     returns-2
     seek-record-requires
-    (search needs) (search needs) (search needs) (search needs)
+    (λ c. search needs) (λ c. search needs) (λ c. search needs) (λ c. search needs)
     returns-3
-    (search needs) (search needs)
+    (λ c. search needs) (λ c. search needs)
     returns-4)

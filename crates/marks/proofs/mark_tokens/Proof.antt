@@ -81,13 +81,13 @@ mark-tokens-spec =
     (tie.spec
     Inv-loop
     μ-loop
-    (search needs)
+    (λ c. search needs)
     loop-holds
     reach-from-requires
-    (search needs)
+    (λ c. search needs)
     cast-class-flag
     class-flag-requires
-    (search needs) (search needs) (search needs) (search needs)
+    (λ c. search needs) (λ c. search needs) (λ c. search needs) (λ c. search needs)
     loop-again
-    (search needs)
+    (λ c. search needs)
     returns)

@@ -61,12 +61,12 @@ pub marks-spec : {M : Type 1} → statement M
 marks-spec =
     tie.close
     (tie.spec
-    (search needs) (search needs)
+    (λ c κs. search needs) (λ c. search needs)
     returns
-    (search needs)
+    (λ c. search needs)
     (λ c κs. fillable (passes (c .before .before .before)))
-    (search needs) (search needs)
+    (λ c. search needs) (λ c. search needs)
     returns-2
     mark-tokens-requires
-    (search needs) (search needs) (search needs)
+    (λ c. search needs) (λ c. search needs) (λ c. search needs)
     returns-3)

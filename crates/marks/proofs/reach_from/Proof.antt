@@ -73,6 +73,6 @@ reach-from-spec =
     loop-holds
     (λ c κs. search needs) (λ c. omega (arith, few (c .before .before)))
     (λ c. omega (arith, few (c .before .before))) (λ c. omega (arith, few (c .before .before)))
-    (λ c. inside (c .before .before .before)) (search needs) (search needs) (search needs)
+    (λ c. inside (c .before .before .before)) (λ c κs. search needs) (λ c. search needs) (λ c. search needs)
     loop-again
     returns)

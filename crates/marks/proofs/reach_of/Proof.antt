@@ -14,4 +14,4 @@ returns-3 : tie.Need-returns-3
 returns-3 c = row-nearer _ _ _ (c .before .last .ensures) (c .if2 .left)
 
 pub reach-of-spec : {M : Type 1} → statement M
-reach-of-spec = tie.close (tie.spec returns (search needs) (search needs) returns-2 returns-3)
+reach-of-spec = tie.close (tie.spec returns (λ c κs. search needs) (λ c. search needs) returns-2 returns-3)

@@ -8,4 +8,4 @@ returns : tie.Need-returns
 returns c = with-shift (c .args .set) (c .args .at) (c .pre)
 
 pub insert-spec : {M : Type 1} → statement M
-insert-spec = tie.close (tie.spec (search needs) returns)
+insert-spec = tie.close (tie.spec (λ c. search needs) returns)

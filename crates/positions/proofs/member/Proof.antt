@@ -13,4 +13,4 @@ unfolding digit
 returns c = ap (λ (y : ℕ). eqb y 1) (and-mask (c .args .set / 2 ^ c .args .at) 1)
 
 pub member-spec : {M : Type 1} → statement M
-member-spec = tie.close (tie.spec (search needs) returns)
+member-spec = tie.close (tie.spec (λ c. search needs) returns)

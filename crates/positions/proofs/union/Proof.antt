@@ -48,6 +48,7 @@ union-spec =
     Inv-loop
     μ-loop
     loop-holds
-    (search needs) (search needs) (search needs) (search needs) (search needs) (search needs)
+    (λ c κs. search needs) (λ c. search needs) (λ c. search needs) (λ c. search needs) (λ c. search needs)
+    (λ c. search needs)
     loop-again
     returns)

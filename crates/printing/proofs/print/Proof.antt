@@ -101,9 +101,9 @@ print-spec =
     μ-loop
     loop-holds
     print-next-requires
-    (search needs)
+    (λ c. search needs)
     returns
     loop-less
     loop-again
-    (search needs)
+    (λ c. search needs)
     returns-2)

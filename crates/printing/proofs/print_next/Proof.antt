@@ -24,10 +24,10 @@ pub print-next-spec : {M : Type 1} → statement M
 print-next-spec =
     tie.close
     (tie.spec
-    (search needs)
+    (λ c κs. search needs)
     slice-reshare-prefix-write-all
     slice-aggregate-write-all
-    (search needs)
+    (λ c κs. search needs)
     add-t11
-    (search needs)
+    (λ c. search needs)
     returns)

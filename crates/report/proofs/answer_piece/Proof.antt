@@ -41,15 +41,12 @@ pub answer-piece-spec : {M : Type 1} → statement M
 answer-piece-spec =
     tie.close
     (tie.spec
-    (search needs)
-    (λ c κs. search needs)
-    (search needs)
+    (λ c. search needs) (λ c κs. search needs) (λ c. search needs)
     returns
-    (λ c κs. search needs)
-    (search needs)
+    (λ c κs. search needs) (λ c. search needs)
     returns-2
-    (search needs)
+    (λ c. search needs)
     returns-3
-    (search needs) (search needs) (search needs) (search needs) (search needs) (search needs) (search needs)
-    (search needs) (search needs)
+    (λ c. search needs) (λ c. search needs) (λ c. search needs) (λ c. search needs) (λ c. search needs)
+    (λ c. search needs) (λ c. search needs) (λ c κs. search needs) (λ c. search needs)
     returns-4)

@@ -28,4 +28,4 @@ returns-2 c =
 pub refused-piece-spec : {M : Type 1} → statement M
 refused-piece-spec =
     tie.close
-    (tie.spec returns (λ c κs. omega (arith, c .before .before .before .pre)) (search needs) returns-2)
+    (tie.spec returns (λ c κs. omega (arith, c .before .before .before .pre)) (λ c. search needs) returns-2)

@@ -42,16 +42,16 @@ pub write-piece-spec : {M : Type 1} → statement M
 write-piece-spec =
     tie.close
     (tie.spec
-    (search needs) (search needs) (search needs) (search needs)
+    (λ c κs. search needs) (λ c. search needs) (λ c κs. search needs) (λ c. search needs)
     (λ c. omega (arith, read (c .before .before) .whole))
     (λ c. omega (arith, read (c .before .before .before) .whole))
     (λ c. omega (arith, read (c .before .before .before) .whole))
-    (search needs) (search needs) (search needs)
+    (λ c. search needs) (λ c. search needs) (λ c. search needs)
     (λ c. omega (arith, read (c .before .before .before) .whole))
-    (search needs) (search needs) (λ c. omega (arith, read (told c) .whole))
+    (λ c. search needs) (λ c. search needs) (λ c. omega (arith, read (told c) .whole))
     (λ c. omega (arith, read (told (c .before)) .whole))
     (λ c. omega (arith, read (told (c .before)) .whole))
-    (search needs) (search needs) (search needs)
+    (λ c. search needs) (λ c κs. search needs) (λ c. search needs)
     returns
-    (search needs)
+    (λ c. search needs)
     returns-2)

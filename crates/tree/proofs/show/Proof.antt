@@ -63,5 +63,5 @@ show-spec =
     (λ c κs. (ready (c .before), node (c .before .before), omega arith))
     returns-2
     write-requires
-    (search needs)
+    (λ c. search needs)
     returns-3)

@@ -54,10 +54,10 @@ pub tree-spec : {M : Type 1} → statement M
 tree-spec =
     tie.close
     (tie.spec
-    (search needs) (search needs)
+    (λ c κs. search needs) (λ c. search needs)
     returns
-    (search needs)
+    (λ c. search needs)
     (λ c κs. fillable (passes (c .before .before .before)))
     show-requires
-    (search needs) (search needs) (search needs)
+    (λ c. search needs) (λ c. search needs) (λ c. search needs)
     returns-2)

@@ -32,9 +32,9 @@ pub checked-spec : {M : Type 1} → statement M
 checked-spec =
     tie.close
     (tie.spec
-    (search needs) (search needs) (search needs)
+    (λ c κs. search needs) (λ c. search needs) (λ c. search needs)
     check-rest-requires
-    (search needs) (search needs)
+    (λ c. search needs) (λ c. search needs)
     returns
     returns-2
     returns-3)

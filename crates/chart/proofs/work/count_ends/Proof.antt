@@ -48,8 +48,8 @@ count-ends-spec =
     Inv-loop
     μ-loop
     loop-holds
-    (search needs) (search needs) (search needs) (search needs)
+    (λ c. search needs) (λ c. search needs) (λ c κs. search needs) (λ c. search needs)
     add-ends
-    (search needs) (search needs)
+    (λ c. search needs) (λ c. search needs)
     loop-again
     returns)

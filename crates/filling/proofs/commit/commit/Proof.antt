@@ -84,7 +84,7 @@ commit-spec =
     loop-holds
     (λ c. omega (arith, few c)) (λ c. omega (arith, few (c .before .before)))
     commit-rows-requires
-    (search needs) (search needs) (search needs)
+    (λ c κs. omega arith) (λ c. omega arith) (λ c. omega arith)
     loop-again
     (λ c. c .before .loop .inv .1 .committed .words-long)
     (λ c. c .before .loop .inv .1 .committed .depths-long)

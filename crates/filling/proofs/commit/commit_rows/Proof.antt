@@ -101,14 +101,14 @@ commit-rows-spec =
     Inv-loop
     μ-loop
     loop-holds
-    (search needs)
+    (λ c. omega arith)
     (λ c. omega (arith, ready (c .before .before) .words-room))
-    (search needs) (search needs)
+    (λ c. omega arith) (λ c. omega arith)
     mul-write-depths
     write-depths-requires
-    (search needs)
+    (λ c. omega arith)
     (λ c. omega (arith, ready (turn (c .before .before .before)) .words-room))
-    (search needs) (search needs)
+    (λ c. omega arith) (λ c. omega arith)
     loop-again
     (λ c. c .before .loop .inv .2 .committed .words-long)
     (λ c. c .before .loop .inv .2 .committed .depths-long)

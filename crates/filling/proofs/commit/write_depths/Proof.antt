@@ -77,7 +77,7 @@ write-depths-spec =
     Inv-loop
     μ-loop
     loop-holds
-    (search needs) (search needs) (λ c. omega (arith, room c)) (λ c. omega (arith, room c))
+    (λ c κs. search needs) (λ c. search needs) (λ c. omega (arith, room c)) (λ c. omega (arith, room c))
     (λ c. omega (arith, room c))
     small
     (λ c. rw (power c) (one-le _ _ (here c)))

@@ -52,6 +52,6 @@ apply-spec =
     (λ c κs. search needs) (λ c. omega (arith, within (c .before))) (λ c. omega (arith, within (c .before)))
     (λ c. within (c .before))
     (λ c. omega (arith, within (c .before .before)))
-    (λ c. within (c .before .before)) (search needs) (search needs)
+    (λ c. within (c .before .before)) (λ c. search needs) (λ c. search needs)
     loop-again
     returns)

@@ -52,15 +52,15 @@ reach-spec =
     (tie.spec
     Inv-loop
     μ-loop
-    (search needs)
+    (λ c κs. search needs)
     loop-holds
     returns
-    (search needs)
+    (λ c. search needs)
     (λ c. omega (arith, c .shared-slice-known3 .given (turn c .loop .d)))
-    (search needs) (search needs)
+    (λ c. search needs) (λ c. search needs)
     (λ c κs. entry (turn (c .before .before)) .pre .0 .small _)
     (λ c. omega (arith, inside c))
     (λ c κs. (entry (turn (c .before)) .pre .0 .narrow, inside c))
-    (search needs) (search needs)
+    (λ c. search needs) (λ c. search needs)
     loop-again
     returns-2)

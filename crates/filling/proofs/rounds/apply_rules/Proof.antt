@@ -87,8 +87,8 @@ apply-rules-spec =
     few
     (λ c. omega (arith, few (c .before .before))) (λ c. few (c .before .before))
     (λ c κs. here (c .before .before .before) .stands)
-    (search needs) (λ c κs. here (turn c) .stands)
+    (λ c. search needs) (λ c κs. here (turn c) .stands)
     apply-requires
-    (search needs) (search needs)
+    (λ c. omega arith) (λ c. omega arith)
     loop-again
     returns)

@@ -32,7 +32,7 @@ clear-words-spec =
     Inv-loop
     μ-loop
     loop-holds
-    (search needs) (search needs) (search needs) (search needs)
+    (λ c. search needs) (λ c. search needs) (λ c. search needs) (λ c. search needs)
     loop-again
     (λ c. c .before .loop .inv .1 .long)
     returns)

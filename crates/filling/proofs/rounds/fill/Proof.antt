@@ -102,16 +102,16 @@ fill-spec =
     (tie.spec
     Inv-loop
     μ-loop
-    (search needs) (search needs) (search needs) (search needs) (search needs) (λ c κs. search needs)
-    (λ c κs. search needs)
+    (λ c. search needs) (λ c. search needs) (λ c κs. search needs) (λ c. search needs) (λ c κs. search needs)
+    (λ c κs. search needs) (λ c κs. search needs)
     class-places-requires
-    (search needs)
+    (λ c κs. search needs)
     loop-holds
     (λ c. omega (arith, few c)) (λ c κs. search needs)
     commit-requires
     (λ c. omega (arith, few (turn (done c .before))))
     loop-again
-    (search needs)
+    (λ c. omega arith)
     (λ c. some-round (c .loop-test .left) (c .before .loop .inv .1 .changes))
-    (search needs) (search needs)
+    (λ c. search needs) (λ c. search needs)
     returns)

@@ -39,9 +39,9 @@ class-places-spec =
     Inv-loop
     μ-loop
     loop-holds
-    (search needs) (λ c. omega (arith, token (c .before))) (λ c. omega (arith, token (c .before)))
-    (λ c. token (c .before)) (search needs)
+    (λ c. search needs) (λ c. omega (arith, token (c .before))) (λ c. omega (arith, token (c .before)))
+    (λ c. token (c .before)) (λ c κs. search needs)
     (λ c. omega (arith, token (c .before .before)))
-    (λ c. token (c .before .before)) (search needs) (search needs)
+    (λ c. token (c .before .before)) (λ c. search needs) (λ c. search needs)
     loop-again
     returns)

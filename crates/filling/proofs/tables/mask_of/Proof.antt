@@ -49,10 +49,10 @@ mask-of-spec =
     Inv-loop
     μ-loop
     loop-holds
-    (search needs) (λ c. omega (arith, symbol (c .before)))
+    (λ c. search needs) (λ c. omega (arith, symbol (c .before)))
     (λ c κs. omega (arith, symbol (c .before .before)))
-    (search needs) (search needs)
+    (λ c. search needs) (λ c. search needs)
     loop-again
-    (search needs)
+    (λ c κs. search needs)
     returns
     returns-2)

@@ -91,6 +91,6 @@ count-records-spec =
     loop-holds
     (λ c κs. (entry (c .before) .pre .0, (c .before .loop .p, here c)))
     add-records
-    (λ c κs. here (c .before) .found .stands) (search needs) (search needs)
+    (λ c κs. here (c .before) .found .stands) (λ c. search needs) (λ c. search needs)
     loop-again
     returns)

@@ -64,6 +64,6 @@ count-rule-spec =
     loop-holds
     count-place-requires
     add-records
-    (search needs) (search needs)
+    (λ c. search needs) (λ c. search needs)
     loop-again
     returns)

@@ -80,13 +80,13 @@ count-start-spec =
     (tie.spec
     Inv-loop
     μ-loop
-    (search needs)
+    (λ c. search needs)
     prefix-ends-requires
     loop-holds
     member-requires
     symbol-ends-requires
-    (search needs) (search needs)
+    (λ c κs. search needs) (λ c. search needs)
     add-records
-    (search needs) (search needs)
+    (λ c. search needs) (λ c. search needs)
     loop-again
     returns)

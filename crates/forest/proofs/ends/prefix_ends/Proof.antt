@@ -50,6 +50,6 @@ prefix-ends-spec =
     insert-requires
     loop-holds
     step-ends-requires
-    (search needs) (search needs)
+    (λ c. search needs) (λ c. search needs)
     loop-again
     returns)

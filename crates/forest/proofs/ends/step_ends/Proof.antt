@@ -43,10 +43,8 @@ step-ends-spec =
     (tie.spec
     Inv-loop
     μ-loop
-    (search needs)
+    (λ c. search needs)
     loop-holds
-    (search needs)
-    (λ c κs. search needs)
-    (search needs) (search needs)
+    (λ c κs. search needs) (λ c κs. search needs) (λ c. search needs) (λ c. search needs)
     loop-again
     returns)

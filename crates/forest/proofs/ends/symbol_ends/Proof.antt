@@ -63,13 +63,13 @@ symbol-ends-spec =
     (λ c κs. c .before .before .before .pre .1 .1 .found .stands)
     (λ c. rw (c .before .rule-symbols .ensures) (entry c .pre .2))
     (λ c. omega (arith, c .shared-slice-known4 .given (entry c .args .d)))
-    (search needs) (λ c. omega (arith, few c)) (λ c. omega (arith, few c)) (λ c. omega (arith, few c))
+    (λ c. search needs) (λ c. omega (arith, few c)) (λ c. omega (arith, few c)) (λ c. omega (arith, few c))
     shared-slice-read-result
     returns
     returns-2
-    (search needs)
+    (λ c. search needs)
     cast-if3
     returns-3
-    (search needs)
+    (λ c. search needs)
     insert-requires
     returns-4)

@@ -73,11 +73,11 @@ seek-middle-spec =
     (tie.spec
     Inv-loop
     μ-loop
-    (search needs)
+    (λ c. search needs)
     loop-holds
     (λ c κs. let e = entry c in omega (arith, c .loop-test .taken, e .pre .0 .isLine .short))
     symbol-ends-requires
     returns
-    (search needs) (search needs)
+    (λ c. search needs) (λ c. search needs)
     loop-again
     returns-2)

@@ -99,7 +99,7 @@ seek-record-spec =
     (tie.spec
     Inv-loop
     μ-loop
-    (search needs)
+    (λ c. search needs)
     loop-holds
     (λ c κs. here c .found .stands)
     (λ c κs. here (c .before .before) .found .stands)
@@ -110,7 +110,7 @@ seek-record-spec =
     seek-middle-requires
     stand-requires
     returns
-    (search needs)
+    (λ c. search needs)
     loop-less-2
     loop-again-2
     (λ c. omega (arith, symbol (c .before), rule-long (c .before)))

@@ -58,15 +58,15 @@ write-decimal-spec =
     (tie.spec
     Inv-loop
     μ-loop
-    (search needs) (search needs)
+    (λ c κs. search needs) (λ c. search needs)
     sub-place
     loop-holds
-    (search needs) (search needs)
+    (λ c. search needs) (λ c. search needs)
     (λ c. let l = c .before .loop in omega (arith, l .inv .1, l .inv .2))
     sub-place-2
-    (search needs)
+    (λ c. omega arith)
     loop-again
-    (search needs) (search needs)
+    (λ c. search needs) (λ c. search needs)
     (λ c. let l = c .before .loop in omega (arith, l .inv .1, l .inv .2))
     (λ c. rw length-set (c .before .loop .inv .2))
     returns)

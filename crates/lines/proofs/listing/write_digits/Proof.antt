@@ -60,10 +60,10 @@ write-digits-spec =
     loop-holds
     (λ c. omega (arith, c .before .before .before .pre .0))
     add-out
-    (search needs)
+    (λ c. search needs)
     slice-write-out
-    (search needs) (search needs)
+    (λ c. search needs) (λ c. search needs)
     loop-again
-    (search needs)
+    (λ c. search needs)
     same-length
     returns)

@@ -28,4 +28,10 @@ returns-2 c =
 
 pub write-fact-spec : {M : Type 1} → statement M
 write-fact-spec =
-    tie.close (tie.spec returns (search needs) (search needs) write-line-requires (search needs) returns-2)
+    tie.close
+    (tie.spec
+    returns
+    (λ c. search needs) (λ c. search needs)
+    write-line-requires
+    (λ c. search needs)
+    returns-2)

@@ -71,17 +71,17 @@ write-nodes-spec =
     Inv-loop
     μ-loop
     loop-holds
-    (search needs) (search needs)
+    (λ c. search needs) (λ c. search needs)
     (λ c. omega (arith, c .shared-slice-known2 .given (4 * c .before .before .loop .k)))
-    (search needs) (search needs)
+    (λ c. search needs) (λ c. search needs)
     cast-t17
-    (search needs) (search needs)
+    (λ c. search needs) (λ c. search needs)
     cast-t21
-    (search needs) (search needs)
+    (λ c. search needs) (λ c. search needs)
     (λ c. omega (arith, c .shared-slice-known5 .given (4 * turn c .loop .k + 3)))
-    (search needs) (search needs)
+    (λ c. search needs) (λ c. search needs)
     write-line-requires
-    (search needs) (search needs)
+    (λ c. search needs) (λ c. search needs)
     loop-again
     same-length
     returns)

@@ -9,4 +9,4 @@ returns : tie.Need-returns
 returns c = stored-byte _ _ _ (omega (arith, c .pre))
 
 pub write-byte-spec : {M : Type 1} → statement M
-write-byte-spec = tie.close (tie.spec (search needs) (search needs) (search needs) returns)
+write-byte-spec = tie.close (tie.spec (λ c. search needs) (λ c. search needs) (λ c. search needs) returns)

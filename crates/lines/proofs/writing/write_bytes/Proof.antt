@@ -48,10 +48,10 @@ write-bytes-spec =
     Inv-loop
     μ-loop
     loop-holds
-    (search needs) (search needs)
+    (λ c. search needs) (λ c. search needs)
     slice-write-out
-    (search needs) (search needs)
+    (λ c. search needs) (λ c. search needs)
     loop-again
-    (search needs)
+    (λ c. search needs)
     same-length
     returns)

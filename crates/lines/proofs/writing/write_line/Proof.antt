@@ -41,5 +41,5 @@ write-line-spec =
     (λ c κs. omega (arith, room c))
     write-numbers-requires
     (λ c κs. omega (arith, room (word (c .before .before .before) .before)))
-    (search needs)
+    (λ c. search needs)
     returns)

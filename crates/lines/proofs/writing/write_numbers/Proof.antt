@@ -62,9 +62,9 @@ write-numbers-spec =
     μ-loop
     loop-holds
     write-byte-requires
-    (search needs) (search needs)
+    (λ c. search needs) (λ c. search needs)
     write-decimal-requires
-    (search needs) (search needs)
+    (λ c. search needs) (λ c. search needs)
     loop-again
     (λ c. long (c .before))
     returns)

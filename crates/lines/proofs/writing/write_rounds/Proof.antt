@@ -55,12 +55,12 @@ pub write-rounds-spec : {M : Type 1} → statement M
 write-rounds-spec =
     tie.close
     (tie.spec
-    (search needs) (search needs) (search needs)
+    (λ c. search needs) (λ c κs. search needs) (λ c. search needs)
     (λ c κs. (omega arith, omega (arith, few (entry (word c)))))
-    (search needs)
+    (λ c. search needs)
     (λ c κs. omega (arith, few (entry (word (first c .before)))))
-    (search needs)
+    (λ c. search needs)
     write-numbers-requires-2
     write-byte-requires
-    (search needs)
+    (λ c. search needs)
     returns)

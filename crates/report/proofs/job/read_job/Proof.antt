@@ -60,21 +60,21 @@ read-job-spec =
     (tie.spec
     returns
     returns-2
-    (search needs)
+    (λ c. search needs)
     (λ c. omega (arith, c .shared-slice-known .given 0))
-    (search needs)
+    (λ c. search needs)
     (λ c. omega (arith, c .shared-slice-known2 .given 1))
     (λ c. omega (arith, c .shared-slice-known2 .given 0, c .shared-slice-known2 .given 1))
     (λ c. omega (arith, c .shared-slice-known2 .given 0, c .shared-slice-known2 .given 1))
     (λ c. omega (arith, c .shared-slice-known2 .given 0, c .shared-slice-known2 .given 1))
     returns-3
-    (search needs) (search needs)
+    (λ c. search needs) (λ c. search needs)
     (λ c. omega (arith, c .shared-slice-known3 .given (2 + grammarCount (input c))))
-    (search needs)
+    (λ c. search needs)
     (λ c. omega (arith, c .shared-slice-known3 .given (2 + grammarCount (input c))))
     returns-4
-    (search needs) (search needs) (search needs) (λ c. omega (arith, few c)) (search needs) (search needs)
-    (λ c. omega (arith, few c)) (λ c. omega (arith, few c))
+    (λ c. search needs) (λ c. search needs) (λ c. search needs) (λ c. omega (arith, few c))
+    (λ c. search needs) (λ c. search needs) (λ c. omega (arith, few c)) (λ c. omega (arith, few c))
     returns-5
     returns-6
     returns-7)

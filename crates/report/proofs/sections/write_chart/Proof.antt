@@ -74,11 +74,11 @@ pub write-chart-spec : {M : Type 1} → statement M
 write-chart-spec =
     tie.close
     (tie.spec
-    (search needs) (search needs) (search needs) (search needs) (search needs) (search needs) (search needs)
-    (search needs)
+    (λ c. search needs) (λ c. search needs) (λ c κs. search needs) (λ c. search needs) (λ c. search needs)
+    (λ c. search needs) (λ c κs. search needs) (λ c. search needs)
     mul-write-facts
     mul-write-facts-2
     write-facts-requires
     returns
-    (search needs)
+    (λ c. search needs)
     returns-2)

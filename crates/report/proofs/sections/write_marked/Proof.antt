@@ -37,7 +37,7 @@ pub write-marked-spec : {M : Type 1} → statement M
 write-marked-spec =
     tie.close
     (tie.spec
-    (search needs) (search needs) (search needs) (search needs) (search needs)
+    (λ c. search needs) (λ c. search needs) (λ c. search needs) (λ c κs. search needs) (λ c. search needs)
     write-marks-requires
-    (search needs)
+    (λ c. search needs)
     returns)

@@ -68,12 +68,12 @@ pub write-tree-spec : {M : Type 1} → statement M
 write-tree-spec =
     tie.close
     (tie.spec
-    (search needs) (search needs) (λ c κs. (omega arith, omega (arith, few c)))
-    (search needs) (search needs) (search needs) (search needs) (search needs)
+    (λ c. search needs) (λ c. search needs) (λ c κs. (omega arith, omega (arith, few c))) (λ c. search needs)
+    (λ c. search needs) (λ c. search needs) (λ c κs. search needs) (λ c. search needs)
     refused-line-requires
-    (search needs) (search needs)
+    (λ c. search needs) (λ c. search needs)
     write-nodes-requires
-    (search needs)
+    (λ c. search needs)
     returns
-    (search needs)
+    (λ c. search needs)
     returns-2)

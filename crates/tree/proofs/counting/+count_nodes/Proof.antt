@@ -145,7 +145,7 @@ pub +count-nodes-spec : {M : Type 1} → statement M
     (rule-symbols-requires t)
     (loop-holds t)
     (returns t)
-    (search needs)
+    (λ c. search needs)
     (cast-symbol t)
     (add-count t)
     (λ c. omega (arith, few t (turn t c)))

@@ -52,10 +52,10 @@ class-starts-spec =
     Inv-loop
     μ-loop
     loop-holds
-    (search needs) (search needs) (search needs)
+    (λ c κs. search needs) (λ c. search needs) (λ c. search needs)
     shared-slice-read-if2
     cast-if2
-    (search needs)
+    (λ c. search needs)
     (λ c κs. omega (arith, turn (c .before .before .before) .small))
     (λ c. turn (c .before) .small)
     (λ c. let t = turn (c .before) in omega (arith, t .power, t .covered))

@@ -16,7 +16,6 @@ pub depth-at-spec : {M : Type 1} → statement M
 depth-at-spec =
     tie.close
     (tie.spec
-    (search needs)
+    (λ c. search needs) (λ c. omega (arith, place c)) (λ c. omega (arith, place c))
     (λ c. omega (arith, place c)) (λ c. omega (arith, place c)) (λ c. omega (arith, place c))
-    (λ c. omega (arith, place c)) (λ c. omega (arith, place c)) (λ c. omega (arith, place (c .before)))
-    (search needs))
+    (λ c. omega (arith, place (c .before))) (λ c. search needs))

@@ -54,14 +54,14 @@ pub first-end-spec : {M : Type 1} → statement M
 first-end-spec =
     tie.close
     (tie.spec
-    (search needs) (λ c. omega (arith, place c)) (λ c. omega (arith, place c))
+    (λ c. search needs) (λ c. omega (arith, place c)) (λ c. omega (arith, place c))
     (λ c. omega (arith, first-depth c)) (λ c. omega (arith, place c)) (λ c. place (c .before))
     shallow-end-requires
     returns
     returns-2
-    (search needs)
+    (λ c. search needs)
     cast-if3
     returns-3
-    (search needs) (search needs) (search needs)
+    (λ c. search needs) (λ c κs. search needs) (λ c. search needs)
     returns-4
     returns-5)

@@ -68,16 +68,16 @@ pub may-serve-spec : {M : Type 1} → statement M
 may-serve-spec =
     tie.close
     (tie.spec
-    (search needs) (search needs)
+    (λ c κs. search needs) (λ c. search needs)
     returns
-    (search needs)
+    (λ c κs. search needs)
     returns-2
-    (search needs)
+    (λ c. search needs)
     (λ c. omega (arith, c .shared-slice-known4 .given 0))
-    (search needs) (λ c. omega (arith, place c)) (λ c. omega (arith, place c)) (λ c. omega (arith, place c))
-    (λ c. place (c .before))
+    (λ c. search needs) (λ c. omega (arith, place c)) (λ c. omega (arith, place c))
+    (λ c. omega (arith, place c)) (λ c. place (c .before))
     returns-3
     returns-4
-    (search needs)
+    (λ c. search needs)
     cast-result
     returns-5)

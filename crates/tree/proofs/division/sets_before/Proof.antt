@@ -69,10 +69,10 @@ sets-before-spec =
     (tie.spec
     Inv-loop
     μ-loop
-    (search needs) (search needs) (search needs)
+    (λ c κs. search needs) (λ c. search needs) (λ c. search needs)
     loop-holds
     returns
-    (search needs) (λ c. few (c .before) .0)
+    (λ c. search needs) (λ c. few (c .before) .0)
     cast-starts-before
     starts-before-requires
     (λ c. omega (arith, few (c .before .before))) (λ c. omega (arith, few (c .before .before)))

@@ -70,7 +70,7 @@ shallow-end-spec =
     Inv-loop
     μ-loop
     loop-holds
-    (search needs) (search needs) (λ c. omega (arith, room c)) (λ c. omega (arith, room c))
+    (λ c κs. search needs) (λ c. search needs) (λ c. omega (arith, room c)) (λ c. omega (arith, room c))
     (λ c. room (c .before))
     returns
     (λ c. turn (c .before .before) .small)

@@ -52,6 +52,6 @@ starts-before-spec =
     returns
     loop-holds
     first-end-requires
-    (search needs) (search needs) (search needs)
+    (λ c κs. search needs) (λ c. search needs) (λ c. search needs)
     loop-again
     returns-2)

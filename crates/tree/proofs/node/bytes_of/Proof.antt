@@ -10,4 +10,4 @@ returns-2 : tie.Need-returns-2
 returns-2 c = rw (c .before .kind2 .given .1)
 
 pub bytes-of-spec : {M : Type 1} → statement M
-bytes-of-spec = tie.close (tie.spec (search needs) (search needs) returns returns-2)
+bytes-of-spec = tie.close (tie.spec (λ c. search needs) (λ c. search needs) returns returns-2)

@@ -18,7 +18,8 @@ pub put-node-spec : {M : Type 1} → statement M
 put-node-spec =
     tie.close
     (tie.spec
-    (search needs) (search needs) (search needs) (search needs) (search needs)
-    (λ c. simp length-set (omega arith)) (search needs) (search needs) (λ c. simp length-set (omega arith))
-    (search needs) (search needs) (λ c. simp length-set (omega arith)) (search needs) (search needs)
+    (λ c κs. search needs) (λ c. search needs) (λ c. search needs) (λ c. search needs) (λ c. search needs)
+    (λ c. simp length-set (omega arith)) (λ c. search needs) (λ c. search needs)
+    (λ c. simp length-set (omega arith)) (λ c. search needs) (λ c. search needs)
+    (λ c. simp length-set (omega arith)) (λ c. search needs) (λ c. search needs)
     returns)
