@@ -54,7 +54,14 @@ fn apply_rules(
     width: usize,
     next: &mut [u64; 2048],
 )
-    requires { ⌜ Sectioned (now g) s × Starts (now g) s (now starts) × (width ≤ 64) × (s .categories * width ≤ length (now words)) × ((c : ℕ) → getD (now places) c 0 < 2 ^ 63) × (length (now next) ≡ 2048) ⌝ }
+    requires { ⌜
+        Sectioned (now g) s
+        × Starts (now g) s (now starts)
+        × (width ≤ 64)
+        × (s .categories * width ≤ length (now words))
+        × ((c : ℕ) → getD (now places) c 0 < 2 ^ 63)
+        × (length (now next) ≡ 2048)
+        ⌝ }
     ensures { λ _. ⌜
         RulesApplied (grammarOf (now (g .entry)) s) (now (masks .entry)) changed
         (now (words .entry)) (now (places .entry)) width (now (next .entry))
@@ -75,7 +82,12 @@ fn apply_rules(
 
 // The chart and the depths of a line, and the greatest depth.
 pub fn fill(g: &[u8], s: Sections, line: &[u8], words: &mut [u64], depths: &mut [u16]) -> usize
-    requires { ⌜ Sectioned (now g) s × IsLine (s .classes) (now line) × (chartSize (s .categories) (length (now line)) ≤ length (now words)) × (depthsSize (s .categories) (length (now line)) ≤ length (now depths)) ⌝ }
+    requires { ⌜
+        Sectioned (now g) s
+        × IsLine (s .classes) (now line)
+        × (chartSize (s .categories) (length (now line)) ≤ length (now words))
+        × (depthsSize (s .categories) (length (now line)) ≤ length (now depths))
+        ⌝ }
     ensures { λ r. ⌜
         Filled (grammarOf (now (g .entry)) s) (now (line .entry))
         (now (words .entry)) (now (depths .entry))

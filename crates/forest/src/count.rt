@@ -15,7 +15,12 @@ use grammar::rules::rule_length;
 
 // The records of a rule's symbol d, counted from 0, and a start.
 pub fn count_start(g: &[u8], at: usize, d: usize, line: &[u8], words: &[u64], start: usize) -> usize
-    requires { ⌜ Charted (now g) (now line) (now words) × Standing (now g) at × (d < length (standing (now g) at .right)) × (start ≤ length (now line)) ⌝ }
+    requires { ⌜
+        Charted (now g) (now line) (now words)
+        × Standing (now g) at
+        × (d < length (standing (now g) at .right))
+        × (start ≤ length (now line))
+        ⌝ }
     ensures { λ r. ⌜ r ≡ startCount (grammarGiven (now (g .entry))) (now (line .entry)) (standing (now (g .entry)) at .right) d start ⌝ }
 {
     let width = line.len() + 1;

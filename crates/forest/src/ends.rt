@@ -9,7 +9,12 @@ use grammar::rules::rule_symbols;
 
 // The ends of symbol d, counted from 0, from m.
 pub fn symbol_ends(g: &[u8], at: usize, d: usize, line: &[u8], words: &[u64], m: usize) -> u64
-    requires { ⌜ Charted (now g) (now line) (now words) × Standing (now g) at × (d < length (standing (now g) at .right)) × (m ≤ length (now line)) ⌝ }
+    requires { ⌜
+        Charted (now g) (now line) (now words)
+        × Standing (now g) at
+        × (d < length (standing (now g) at .right))
+        × (m ≤ length (now line))
+        ⌝ }
     ensures { λ r. ⌜ SymbolEnds (now (g .entry)) (now (line .entry)) at d m r ⌝ }
 {
     let n = line.len();
@@ -29,7 +34,12 @@ pub fn symbol_ends(g: &[u8], at: usize, d: usize, line: &[u8], words: &[u64], m:
 
 // The ends of symbol d from the positions of a set.
 pub fn step_ends(g: &[u8], at: usize, d: usize, line: &[u8], words: &[u64], set: u64) -> u64
-    requires { ⌜ Charted (now g) (now line) (now words) × Standing (now g) at × (d < length (standing (now g) at .right)) × ((m : ℕ) → Member set m → m ≤ length (now line)) ⌝ }
+    requires { ⌜
+        Charted (now g) (now line) (now words)
+        × Standing (now g) at
+        × (d < length (standing (now g) at .right))
+        × ((m : ℕ) → Member set m → m ≤ length (now line))
+        ⌝ }
     ensures { λ r. ⌜ StepEnds (now (g .entry)) (now (line .entry)) at d set r ⌝ }
 {
     let width = line.len() + 1;
@@ -46,7 +56,12 @@ pub fn step_ends(g: &[u8], at: usize, d: usize, line: &[u8], words: &[u64], set:
 
 // The ends of the first d symbols, from a start.
 pub fn prefix_ends(g: &[u8], at: usize, d: usize, line: &[u8], words: &[u64], start: usize) -> u64
-    requires { ⌜ Charted (now g) (now line) (now words) × Standing (now g) at × (d ≤ length (standing (now g) at .right)) × (start ≤ length (now line)) ⌝ }
+    requires { ⌜
+        Charted (now g) (now line) (now words)
+        × Standing (now g) at
+        × (d ≤ length (standing (now g) at .right))
+        × (start ≤ length (now line))
+        ⌝ }
     ensures { λ r. ⌜ PrefixEnds (now (g .entry)) (now (line .entry)) at d start r ⌝ }
 {
     let mut ends = positions::insert(0, start);

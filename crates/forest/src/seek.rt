@@ -62,7 +62,12 @@ pub fn seek_middle(
     middles: u64,
     from: usize,
 ) -> Spot
-    requires { ⌜ Charted (now g) (now line) (now words) × Standing (now g) at × (d < length (standing (now g) at .right)) × (from ≤ length (now line) + 1) ⌝ }
+    requires { ⌜
+        Charted (now g) (now line) (now words)
+        × Standing (now g) at
+        × (d < length (standing (now g) at .right))
+        × (from ≤ length (now line) + 1)
+        ⌝ }
     ensures { λ r. ⌜ FirstMiddle (now (g .entry)) (now (line .entry)) at d middles from r ⌝ }
 {
     let width = line.len() + 1;
@@ -89,7 +94,13 @@ pub fn seek_record(
     d: usize,
     start: usize,
 ) -> Sought
-    requires { ⌜ Charted (now g) (now line) (now words) × (rule ≤ sectionsGiven (now g) .rules) × (at ≡ startOf (now g) rule (sectionsGiven (now g) .first)) × (d < 8) × (start ≤ length (now line) + 1) ⌝ }
+    requires { ⌜
+        Charted (now g) (now line) (now words)
+        × (rule ≤ sectionsGiven (now g) .rules)
+        × (at ≡ startOf (now g) rule (sectionsGiven (now g) .first))
+        × (d < 8)
+        × (start ≤ length (now line) + 1)
+        ⌝ }
     ensures { λ r. ⌜ FirstRecord (now (g .entry)) (now (line .entry)) rule d start r ⌝ }
 {
     let width = line.len() + 1;

@@ -54,7 +54,12 @@ fn reach_from(g: &[u8], s: Sections, words: &[u64], width: usize, start: usize, 
 
 // A byte for each token, 1 secret and 0 not; how many are 1.
 fn mark_tokens(g: &[u8], s: Sections, line: &[u8], words: &[u64], marks: &mut [u8]) -> usize
-    requires { ⌜ Sectioned (now g) s × IsLine (s .classes) (now line) × ChartHolds (grammarOf (now g) s) (now line) (now words) × (length (now line) ≤ length (now marks)) ⌝ }
+    requires { ⌜
+        Sectioned (now g) s
+        × IsLine (s .classes) (now line)
+        × ChartHolds (grammarOf (now g) s) (now line) (now words)
+        × (length (now line) ≤ length (now marks))
+        ⌝ }
     ensures { λ r. ⌜ MarksAre (grammarOf (now (g .entry)) s) (now (line .entry)) (now (marks .entry)) (now (marks .exit)) r ⌝ }
 {
     let width = line.len() + 1;

@@ -22,7 +22,11 @@ pub fn count_nodes(
     depth: u16,
     limit: usize,
 ) -> usize
-    requires { ⌜ Searchable (grammarGiven (now g)) (now g) (now starts) (now line) (now words) (now depths) × NodeAt (grammarGiven (now g)) (now line) category start end depth × (limit < 2 ^ 62) ⌝ }
+    requires { ⌜
+        Searchable (grammarGiven (now g)) (now g) (now starts) (now line) (now words) (now depths)
+        × NodeAt (grammarGiven (now g)) (now line) category start end depth
+        × (limit < 2 ^ 62)
+        ⌝ }
     ensures { λ r. ⌜ Counted (length (shown (grammarGiven (now (g .entry))) (now (line .entry)) category start end)) limit r ⌝ }
 {
     let found = search(g, starts, line, words, depths, category, start, end, depth);

@@ -45,7 +45,12 @@ pub fn first_end(
     set: u64,
     start: usize,
 ) -> usize
-    requires { ⌜ (length (now line) ≤ 63) × (start ≤ length (now line)) × ((e : ℕ) → Member set e → e ≤ length (now line)) × Fits (length (now line)) (length (now words)) (length (now depths)) symbol ⌝ }
+    requires { ⌜
+        (length (now line) ≤ 63)
+        × (start ≤ length (now line))
+        × ((e : ℕ) → Member set e → e ≤ length (now line))
+        × Fits (length (now line)) (length (now words)) (length (now depths)) symbol
+        ⌝ }
     ensures { λ r. ⌜ FirstEnd (now (line .entry)) (now (words .entry)) (now (depths .entry)) h symbol set start r ⌝ }
 {
     if 128 <= symbol {
@@ -95,7 +100,12 @@ fn starts_before(
     start: usize,
     end: usize,
 ) -> u64
-    requires { ⌜ (length (now line) ≤ 63) × (end ≤ length (now line)) × ((e : ℕ) → Member set e → e ≤ end) × Fits (length (now line)) (length (now words)) (length (now depths)) symbol ⌝ }
+    requires { ⌜
+        (length (now line) ≤ 63)
+        × (end ≤ length (now line))
+        × ((e : ℕ) → Member set e → e ≤ end)
+        × Fits (length (now line)) (length (now words)) (length (now depths)) symbol
+        ⌝ }
     ensures { λ r. ⌜ StartsBefore (now (line .entry)) (now (words .entry)) (now (depths .entry)) h symbol set start end r ⌝ }
 {
     if symbol < 128 {
@@ -122,7 +132,13 @@ pub fn sets_before(
     start: usize,
     end: usize,
 ) -> [u64; 9]
-    requires { ⌜ (length (now line) ≤ 63) × (start ≤ end) × (end ≤ length (now line)) × (length (now symbols) ≤ 8) × ((d : ℕ) → d < length (now symbols) → Fits (length (now line)) (length (now words)) (length (now depths)) (getD (now symbols) d 0)) ⌝ }
+    requires { ⌜
+        (length (now line) ≤ 63)
+        × (start ≤ end)
+        × (end ≤ length (now line))
+        × (length (now symbols) ≤ 8)
+        × ((d : ℕ) → d < length (now symbols) → Fits (length (now line)) (length (now words)) (length (now depths)) (getD (now symbols) d 0))
+        ⌝ }
     ensures { λ r. ⌜ Sets (now (line .entry)) (now (words .entry)) (now (depths .entry)) h (now (symbols .entry)) start end r ⌝ }
 {
     let mut sets = [0u64; 9];
@@ -150,7 +166,12 @@ pub fn may_serve(
     start: usize,
     end: usize,
 ) -> bool
-    requires { ⌜ Stands (now g) at × (length (now line) ≤ 63) × (start ≤ length (now line)) × (0 < length (standing (now g) at .right) → RowsFit (length (now line)) (length (now words)) (getD (standing (now g) at .right) 0 0)) ⌝ }
+    requires { ⌜
+        Stands (now g) at
+        × (length (now line) ≤ 63)
+        × (start ≤ length (now line))
+        × (0 < length (standing (now g) at .right) → RowsFit (length (now line)) (length (now words)) (getD (standing (now g) at .right) 0 0))
+        ⌝ }
     ensures { λ r. ⌜ MayServe (now (line .entry)) (now (words .entry)) (standing (now (g .entry)) at) category start end r ⌝ }
 {
     if rule_left(g, at) as usize != category {

@@ -45,7 +45,17 @@ fn show(
     j: usize,
     out: &mut [u8],
 ) -> TreeAnswer
-    requires { ⌜ (readOf (now g) ≡ Accepted s) × (length (now line) ≤ 63) × (a < s .categories) × (i ≤ length (now line)) × (j ≤ length (now line)) × (depthsSize (s .categories) (length (now line)) ≤ length (now depths)) × DepthsKept (grammarGiven (now g)) (now line) (now depths) × (chartSize (s .categories) (length (now line)) ≤ length (now words)) × RowsKept (grammarGiven (now g)) (now line) (now words) ⌝ }
+    requires { ⌜
+        (readOf (now g) ≡ Accepted s)
+        × (length (now line) ≤ 63)
+        × (a < s .categories)
+        × (i ≤ length (now line))
+        × (j ≤ length (now line))
+        × (depthsSize (s .categories) (length (now line)) ≤ length (now depths))
+        × DepthsKept (grammarGiven (now g)) (now line) (now depths)
+        × (chartSize (s .categories) (length (now line)) ≤ length (now words))
+        × RowsKept (grammarGiven (now g)) (now line) (now words)
+        ⌝ }
     ensures { λ r. ⌜ ShowOutcome (grammarGiven (now (g .entry))) (now (line .entry)) a i j (now (out .entry)) r (now (out .exit)) ⌝ }
 {
     let depth = depth_at(depths, line.len(), a, i, j);

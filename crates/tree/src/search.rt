@@ -25,7 +25,10 @@ pub fn search(
     end: usize,
     depth: u16,
 ) -> Found
-    requires { ⌜ Searchable (grammarGiven (now g)) (now g) (now starts) (now line) (now words) (now depths) × NodeAt (grammarGiven (now g)) (now line) category start end depth ⌝ }
+    requires { ⌜
+        Searchable (grammarGiven (now g)) (now g) (now starts) (now line) (now words) (now depths)
+        × NodeAt (grammarGiven (now g)) (now line) category start end depth
+        ⌝ }
     ensures { λ r. ⌜ Searched (grammarGiven (now (g .entry))) (now (line .entry)) category start end depth r ⌝ }
 {
     let h = depth - 1;

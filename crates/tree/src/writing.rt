@@ -27,7 +27,11 @@ pub fn write(
     out: &mut [u8],
     at: usize,
 ) -> usize
-    requires { ⌜ Searchable (grammarGiven (now g)) (now g) (now starts) (now line) (now words) (now depths) × NodeAt (grammarGiven (now g)) (now line) category start end depth × (at + length (bytes (shown (grammarGiven (now g)) (now line) category start end)) ≤ length (now out)) ⌝ }
+    requires { ⌜
+        Searchable (grammarGiven (now g)) (now g) (now starts) (now line) (now words) (now depths)
+        × NodeAt (grammarGiven (now g)) (now line) category start end depth
+        × (at + length (bytes (shown (grammarGiven (now g)) (now line) category start end)) ≤ length (now out))
+        ⌝ }
     ensures { λ r. ⌜
         (r ≡ at + length (bytes (shown (grammarGiven (now (g .entry))) (now (line .entry)) category start end)))
         × (now (out .exit) ≡ wrote (now (out .entry)) at
