@@ -7,6 +7,7 @@ pub mod Late
 pub mod Filling
 pub mod Exists
 pub mod Outcomes
+pub mod Twelve
 pub mod Reported
 pub mod Least
 pub mod Printed
