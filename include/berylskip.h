@@ -15,10 +15,10 @@
  * Every function answers by its return value:
  *   0        the question is answered: the numbers of the answer are written, *place is as before, and the work memory
  *            (words and depths) is filled anew
- *   1 to 12  the question is turned down, by enum berylskip_refusal: *place is written, and the numbers of the answer are
- *            as before; after 1 to 9 and 12 all lent memory is as before, and after 10 and 11 the work memory is filled,
+ *   1 to 11  the question is turned down, by enum berylskip_refusal: *place is written, and the numbers of the answer are
+ *            as before; after 1 to 9 all lent memory is as before, and after 10 and 11 the work memory is filled,
  *            and the marks, the tree's bytes or the records are as before
- * Where several refusals hold, the first in this order is given: 1 to 4 in reading order, then 5, 6, 7, 8, 9, 12, 10, 11.
+ * Where several refusals hold, the first in this order is given: 1 to 4 in reading order, then 5, 6, 7, 8, 9, 10, 11.
  * Memory past what is named keeps what it held. Nothing is kept between two calls.
  */
 #ifndef BERYLSKIP_H
@@ -77,8 +77,7 @@ enum berylskip_refusal {
     BERYLSKIP_NUMBER_OUTSIDE = 8,       /* 0 the category, 1 the start, 2 the end */
     BERYLSKIP_WORK_TOO_SMALL = 9,       /* 0 the words, 1 the depths */
     BERYLSKIP_TREE_OF_NO_FACT = 10,     /* 0 */
-    BERYLSKIP_OUTPUT_TOO_SMALL = 11,    /* marks: bytes needed; forest: records needed; tree: 0 */
-    BERYLSKIP_DEPTH_TOO_LARGE = 12      /* 0; it cannot come, since no depth is above 2,048 */
+    BERYLSKIP_OUTPUT_TOO_SMALL = 11     /* marks: bytes needed; forest: records needed; tree: 0 */
 };
 
 /* A record of the forest: the first place - 1 symbols of the rule derive start..middle, and the symbol at the place, counted

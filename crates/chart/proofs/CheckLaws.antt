@@ -1,24 +1,20 @@
 -- What a question's checks report, from what the first of them find.
 use Prim.Native.Nat.{ℕ, _≤_}
-use mathlib.Core.Path.{_≡_, refl, _∙_}
+use mathlib.Core.Path.{_≡_, refl}
 use mathlib.Core.List.{List}
-use native.Mathlib.Nat.{le-trans}
 use native.Mathlib.Omega.{arith}
 use lib.ListN.{length}
-use borrow.Author.Tests.{le-ltb}
 use Rattle.refusals.specs.declared.Refusal.{Refusal}
 use Rattle.refusals.specs.declared.Check.{Check}
 use Rattle.refusals.specs.declared.Check.the-variants as check
 use Rattle.refusals.specs.Order.{early}
-use Rattle.derivation.specs.Grammar.{Grammar, Proper}
-use Rattle.derivation.specs.computed.RoundsOf.{roundsOf}
-use Rattle.derivation.proofs.RoundsOf.{rounds-fit}
+use Rattle.derivation.specs.Grammar.{Proper}
 use Rattle.checks.specs.declared.Asked.{Asked}
 use Rattle.checks.specs.Line.{IsLine, lineCheck}
 use Rattle.checks.specs.Question.{askedCheck}
-use Rattle.checks.specs.Memory.{chartSize, depthsSize, workCheck}
+use Rattle.checks.specs.Memory.{chartSize, depthsSize}
 use Rattle.checks.specs.inner.Rest.{restCheck}
-use Rattle.checks.proofs.Laws.{both-passed, refused-before, passed-before, line-passed, work-passed}
+use Rattle.checks.proofs.Laws.{both-passed, line-passed, work-passed}
 use Rattle.grammar.specs.declared.reading.Sections.{Sections}
 use Rattle.grammar.specs.declared.reading.Reading.{Reading}
 use Rattle.grammar.specs.declared.reading.Reading.the-variants.{Accepted, Refused}
@@ -27,9 +23,9 @@ use Rattle.grammar.specs.Value.{Sectioned, grammarOf}
 use Rattle.grammar.specs.Given.{checkOf, sectionsIn, grammarGiven}
 use Rattle.grammar.specs.Told.{readingTold}
 use Rattle.grammar.proofs.Accepted.{accepted, whole}
-use Rattle.grammar.proofs.Encoded.{sections-proper, accepted-proper, category-count}
+use Rattle.grammar.proofs.Encoded.{accepted-proper}
 use Rattle.chart.specs.inner.Checked.{acceptedIf, checkedOf}
-use Rattle.chart.specs.Checks.{checksOn, checksOf, depthCheck}
+use Rattle.chart.specs.Checks.{checksOf}
 use Rattle.chart.specs.Told.{firstTold}
 
 -- sections are handed on exactly where the check passes
@@ -43,12 +39,13 @@ accepted-refused x check.Passed refusal e = absurd (let z : _≡_ {A = ℕ} 0 1 
 
 -- a refusal of the first checks is the question's
 pub checked-refused :
-    (reading : Reading) (G : Grammar) (line : List ℕ) (asked : Asked) (words depths : List ℕ) (fact room : Check) (refusal : Refusal) →
-    checkedOf reading line asked (length words) (length depths) ≡ Refused refusal → early (checksOn reading G line asked words depths fact room) ≡ check.Refused refusal
-checked-refused (Refused x) G line asked words depths fact room refusal e = cc
-checked-refused (Accepted s) G line asked words depths fact room refusal e =
-    refused-before (lineCheck (s .classes) line) (askedCheck (s .categories) (length line) asked) (workCheck (s .categories) (length line) (length words) (length depths)) (depthCheck G line)
-    (accepted-refused s _ refusal e)
+    (g line : List ℕ) (asked : Asked) (words depths : List ℕ) (fact room : Check) (refusal : Refusal) →
+    checkedOf (readOf g) line asked (length words) (length depths) ≡ Refused refusal → early (checksOf g line asked words depths fact room) ≡ check.Refused refusal
+checked-refused g line asked words depths fact room refusal e = go (readOf g) refl e
+  where
+    go : (r : Reading) → readOf g ≡ r → checkedOf r line asked (length words) (length depths) ≡ Refused refusal → early (checksOf g line asked words depths fact room) ≡ check.Refused refusal
+    go (Refused x) q h = rw q cc
+    go (Accepted s) q h = rw q (accepted-refused s _ refusal h)
 
 -- what is known of a question whose first checks pass
 pub record Passes (g line : List ℕ) (asked : Asked) (words numbers : ℕ) (s : Sections) : Type 0 where
@@ -87,19 +84,9 @@ module _ {g line : List ℕ} {asked : Asked} {words numbers : ℕ} {s : Sections
   pub grammar-is : grammarGiven g ≡ grammarOf g s
   grammar-is = rw (passes .read)
 
-  -- no depth passes 65,535
-  pub depth-passes : depthCheck (grammarOf g s) line ≡ check.Passed
-  depth-passes =
-      let few = rounds-fit (grammarOf g s) line (sections-proper g s sections) (rw (category-count g s sections) categories-few) (line-is .short) in
-      let small : roundsOf (grammarOf g s) line ≤ 65535 = le-trans few (omega arith) in
-      rw (le-ltb 65535 (roundsOf (grammarOf g s) line) small)
-
 pub early-passed : {g line : List ℕ} {asked : Asked} (words depths : List ℕ) {s : Sections} (fact room : Check) → Passes g line asked (length words) (length depths) s →
     early (checksOf g line asked words depths fact room) ≡ check.Passed
-early-passed {g} {line} {asked} words depths {s} fact room passes =
-    rw (passes .read)
-    (passed-before (lineCheck (s .classes) line) (askedCheck (s .categories) (length line) asked) (workCheck (s .categories) (length line) (length words) (length depths)) (depthCheck (grammarOf g s) line) (passes .rest)
-    ∙ depth-passes passes)
+early-passed words depths fact room passes = rw (passes .read) (passes .rest)
 
 -- what the first checks tell
 pub checked-told :
@@ -107,7 +94,7 @@ pub checked-told :
 checked-told g line asked words depths = go (checkedOf (readOf g) line asked (length words) (length depths)) refl
   where
     go : (r : Reading) → checkedOf (readOf g) line asked (length words) (length depths) ≡ r → readingTold r ≡ firstTold g line asked words depths
-    go (Refused refusal) e = rw (checked-refused (readOf g) (grammarGiven g) line asked words depths check.Passed check.Passed refusal e)
+    go (Refused refusal) e = rw (checked-refused g line asked words depths check.Passed check.Passed refusal e)
     go (Accepted s) e =
         let passes = checked-accepted g line asked (length words) (length depths) s e in
         rw (early-passed words depths check.Passed check.Passed passes, passes .read)

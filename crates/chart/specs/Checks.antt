@@ -2,42 +2,28 @@
 use Prim.Native.Nat.{ℕ}
 use mathlib.Core.List.{List}
 use lib.ListN.{length}
-use lib.Dec.{ltb}
-use Rattle.refusals.specs.declared.Refusal.the-variants.{DepthTooLarge}
 use Rattle.refusals.specs.declared.Check.{Check}
 use Rattle.refusals.specs.declared.Check.the-variants.{Passed}
 use Rattle.refusals.specs.Order.{Checks}
-use Rattle.derivation.specs.Grammar.{Grammar}
-use Rattle.derivation.specs.computed.RoundsOf.{roundsOf}
 use Rattle.checks.specs.declared.Asked.{Asked}
 use Rattle.checks.specs.declared.Asked.the-variants.{Nothing, Start}
 use Rattle.checks.specs.Line.{lineCheck}
-use Rattle.checks.specs.Question.{refuseIf, askedCheck}
+use Rattle.checks.specs.Question.{askedCheck}
 use Rattle.checks.specs.Memory.{workCheck}
-use Rattle.grammar.specs.declared.reading.Reading.{Reading}
 use Rattle.grammar.specs.Reading.{readOf}
-use Rattle.grammar.specs.Given.{checkOf, sectionsIn, grammarGiven}
+use Rattle.grammar.specs.Given.{checkOf, sectionsIn}
 
--- a depth would pass 65,535
-abbrev pub depthCheck : Grammar → List ℕ → Check
-depthCheck G line = refuseIf (ltb 65535 (roundsOf G line)) DepthTooLarge
-
--- a question over a reading and its grammar, a line and work memory: the numbers that it asks with, and its own checks of a fact and of room
-abbrev pub checksOn : Reading → Grammar → (line : List ℕ) → Asked → (words depths : List ℕ) → (fact room : Check) → Checks
-checksOn reading G line asked words depths fact room =
+-- a question over grammar bytes, a line and work memory: the numbers that it asks with, and its own checks of a fact and of room
+abbrev pub checksOf : (g line : List ℕ) → Asked → (words depths : List ℕ) → (fact room : Check) → Checks
+checksOf g line asked words depths fact room =
     record {
-      grammar = checkOf reading;
-      line = lineCheck (sectionsIn reading .classes) line;
-      question = askedCheck (sectionsIn reading .categories) (length line) asked;
-      memory = workCheck (sectionsIn reading .categories) (length line) (length words) (length depths);
-      filling = depthCheck G line;
+      grammar = checkOf (readOf g);
+      line = lineCheck (sectionsIn (readOf g) .classes) line;
+      question = askedCheck (sectionsIn (readOf g) .categories) (length line) asked;
+      memory = workCheck (sectionsIn (readOf g) .categories) (length line) (length words) (length depths);
       fact = fact;
       room = room;
     }
-
--- the same over grammar bytes
-abbrev pub checksOf : (g line : List ℕ) → Asked → (words depths : List ℕ) → (fact room : Check) → Checks
-checksOf g line asked words depths fact room = checksOn (readOf g) (grammarGiven g) line asked words depths fact room
 
 -- the chart question asks with no number
 abbrev pub chartChecks : (g line words depths : List ℕ) → Checks

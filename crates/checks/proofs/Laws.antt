@@ -44,16 +44,6 @@ both-passed (Refused refusal) b e = absurd (never e)
     never : Refused refusal ≡ Passed → ⊥
     never h = let z : _≡_ {A = ℕ} 0 1 = cc in omega arith
 
--- what three checks refuse, they refuse with more behind them; and where they pass, it is for what is behind
-pub refused-before : (a b c d : Check) {refusal : Refusal} → andThen a (andThen b c) ≡ Refused refusal → andThen a (andThen b (andThen c d)) ≡ Refused refusal
-refused-before (Refused x) b c d e = e
-refused-before Passed (Refused x) c d e = e
-refused-before Passed Passed (Refused x) d e = e
-refused-before Passed Passed Passed d e = absurd (let z : _≡_ {A = ℕ} 0 1 = cc in omega arith)
-
-pub passed-before : (a b c d : Check) → andThen a (andThen b c) ≡ Passed → andThen a (andThen b (andThen c d)) ≡ d
-passed-before a b c d e = let p = both-passed a (andThen b c) e in let q = both-passed b c (p .1) in rw (p .0, q .0, q .1)
-
 pub reported-passed : (c : Checks) → reported c ≡ Passed → (early c ≡ Passed) × (late c ≡ Passed)
 reported-passed c e = both-passed (early c) (late c) e
 

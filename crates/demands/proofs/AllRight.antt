@@ -11,7 +11,7 @@ use Rattle.derivation.specs.Grammar.{Grammar}
 use Rattle.checks.specs.Line.{lineCheck}
 use Rattle.checks.specs.Question.{askedCheck}
 use Rattle.checks.specs.Memory.{chartSize, depthsSize, workCheck}
-use Rattle.checks.proofs.Laws.{both-passed, not-both, line-passed}
+use Rattle.checks.proofs.Laws.{not-both, line-passed}
 use Rattle.grammar.specs.declared.reading.Sections.{Sections}
 use Rattle.grammar.specs.declared.reading.Reading.{Reading}
 use Rattle.grammar.specs.declared.reading.Reading.the-variants.{Accepted, Refused}
@@ -90,8 +90,4 @@ early-passes x q fact room e = go (readOf (x .grammar)) refl e
   where
     go : (r : Reading) → readOf (x .grammar) ≡ r → early (checksOf (x .grammar) (x .line) (askedOf q) (x .words) (x .depths) fact room) ≡ check.Passed → (s : Sections) × PassesFor x q s
     go (Refused refusal) read h = absurd (not-both refl (rw read at h))
-    go (Accepted s) read h =
-        let line = both-passed (lineCheck (s .classes) (x .line)) _ (rw read at h) in
-        let asked = both-passed (askedCheck (s .categories) (length (x .line)) (askedOf q)) _ (line .1) in
-        let work = both-passed (workCheck (s .categories) (length (x .line)) (length (x .words)) (length (x .depths))) _ (asked .1) in
-        (s, record { read = read; rest = rw (line .0, asked .0, work .0) })
+    go (Accepted s) read h = (s, record { read = read; rest = rw read at h })

@@ -6,12 +6,12 @@ use native.Mathlib.Omega.{arith}
 use lib.ListN.{length, drop}
 use Rattle.refusals.specs.Told.{answered}
 use Rattle.derivation.specs.Grammar.{Grammar, Proper}
-use Rattle.derivation.specs.Tree.{Tree, height}
+use Rattle.derivation.specs.Tree.{Tree}
 use Rattle.derivation.specs.Depth.{DepthIs, noFact, deep}
 use Rattle.derivation.specs.Rounds.{RoundsIs}
 use Rattle.derivation.specs.Node.{preorder}
 use Rattle.derivation.specs.Choice.{Chosen}
-use Rattle.derivation.proofs.Decide.{depth-bound}
+use Rattle.derivation.proofs.Decide.{depth-bound, depth-fits}
 use Rattle.derivation.proofs.Choice.{chosen-height}
 use Rattle.grammar.specs.Given.{grammarGiven}
 use Rattle.chart.specs.Told.{chartTold}
@@ -33,14 +33,16 @@ use Rattle.demands.proofs.Reported.{reports-right, reports-work, one-to
 pub encoded-proper : {G : Grammar} {g : List ℕ} → Encodes G g → Proper G
 encoded-proper e = record { lefts = λ p l. e .within .each p l .left }
 
-least-height : {G : Grammar} {line : List ℕ} {A i j d : ℕ} → Proper G → DepthIs G line A i j d → LeastHeight G line A i j d
-least-height proper (noFact n) = record { least = λ f. absurd (n f); bounded = omega arith; none = λ m. refl }
-least-height {G} {line} proper (deep d) = record { least = λ f. d; bounded = depth-bound G line proper d; none = λ m. absurd (m (d .tree)) }
+least-height : {G : Grammar} {g line : List ℕ} {A i j d : ℕ} → Encodes G g → length line ≤ 63 → DepthIs G line A i j d → LeastHeight G line A i j d
+least-height e short (noFact n) = record { least = λ f. absurd (n f); bounded = omega arith; fits = omega arith; none = λ m. refl }
+least-height {G} {line = line} e short (deep d) =
+    let proper = encoded-proper e in
+    record { least = λ f. d; bounded = depth-bound G line proper d; fits = depth-fits G line proper (e .within .categories) short d; none = λ m. absurd (m (d .tree)) }
 
 module _ {G : Grammar} {x : Input} where
   pub depths-least : {q : Query} {r : Result q} → Reports G x q r → (A i j : ℕ) → A < length (G .categories) → i ≤ length (x .line) → j ≤ length (x .line) →
       LeastHeight G (x .line) A i j (depthKept (r .depths) (x .line) A i j)
-  depths-least report A i j a l k = least-height (encoded-proper (report .grammar)) (reports-work report .depth A i j a l k)
+  depths-least report A i j a l k = least-height (report .grammar) (reports-right report .line .short) (reports-work report .depth A i j a l k)
 
   pub rounds-told : {r : Result chart} → Reports G x chart r → (values : List ℕ) → r .told ≡ answered values →
       (rounds : ℕ) × (facts : ℕ) × (values ≡ rounds ∷ facts ∷ []) × RoundsIs G (x .line) rounds

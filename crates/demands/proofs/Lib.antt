@@ -7,7 +7,6 @@ pub mod Late
 pub mod Filling
 pub mod Exists
 pub mod Outcomes
-pub mod Twelve
 pub mod Reported
 pub mod Least
 pub mod Printed

@@ -41,7 +41,7 @@ abbrev pub first : Input → Query → Check
 first x q = early (checksOf (x .grammar) (x .line) (askedOf q) (x .words) (x .depths) check.Passed check.Passed)
 
 -- refusals of grammar bytes have numbers up to 5
-pub grammar-number : {g : List ℕ} {row : Row} → Refusing g row → row .number ≤ 9
+grammar-number : {g : List ℕ} {row : Row} → Refusing g row → row .number ≤ 9
 grammar-number (endsEarly b n) = omega arith
 grammar-number (notRight {next = next} b y w rest) = go next
   where

@@ -110,10 +110,11 @@ pub record Demand2 : Type 0 where
 abbrev pub depthKept : List ℕ → List ℕ → (A i j : ℕ) → ℕ
 depthKept depths line A i j = getD depths ((A * (length line + 1) + i) * (length line + 1) + j) 0
 
--- the number for (A, i, j): the least height of its trees, at most N×(j-i+1); 0 where it is no fact
+-- the number for (A, i, j): the least height of its trees, at most N×(j-i+1) and so at most 32×64, which fits in 16 bits; 0 where it is no fact
 pub record LeastHeight (G : Grammar) (line : List ℕ) (A i j depth : ℕ) : Type 0 where
   pub least : Fact G line A i j → Depth G line A i j depth
   pub bounded : depth ≤ length (G .categories) * (j - i + 1)
+  pub fits : depth ≤ 2048
   pub none : ¬ Fact G line A i j → depth ≡ 0
 
 -- a derivation tree of (A, i, j) of exactly this height, with the document's choice at every node; its nodes in preorder are counted and written, all past them as it was

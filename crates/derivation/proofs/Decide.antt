@@ -3,7 +3,7 @@ use Prim.Native.Nat.{ℕ, zero, suc, _-_, _≤_, _<_}
 use mathlib.Core.Path.{_≡_, refl, sym, _∙_}
 use mathlib.Core.Bool.{Bool, true, false, true≢false, false≢true, Bool-discrete}
 use mathlib.Core.List.{List}
-use native.Mathlib.Nat.{le-refl, le-antisymm, mul-le-mul-left, le-trans, lt-of-not-le, not-le-of-lt}
+use native.Mathlib.Nat.{le-refl, le-antisymm, mul-le-mul, mul-le-mul-left, le-trans, lt-of-not-le, not-le-of-lt}
 use native.Mathlib.Omega.{arith}
 use lib.ListN.{length}
 use Rattle.derivation.specs.Bound.{depthBound, roundsBound}
@@ -54,6 +54,10 @@ module _ (g : Grammar) (w : List ℕ) where
     -- no depth passes N × (n + 1)
     pub rounds-bound : {A i j d : ℕ} → Depth g w A i j d → d ≤ roundsBound g w
     rounds-bound p = le-trans (depth-bound p) (mul-le-mul-left (length (g .categories)) (omega (arith, tree-inside (p .tree) .ends)))
+
+    -- so within the limits of a grammar and a line a depth fits in 16 bits
+    pub depth-fits : length (g .categories) ≤ 32 → length w ≤ 63 → {A i j d : ℕ} → Depth g w A i j d → d ≤ 2048
+    depth-fits few short p = le-trans (rounds-bound p) (mul-le-mul {m₂ = 64} few (omega arith))
 
     pub fact? : (A i j : ℕ) → Dec (Fact g w A i j)
     fact? A i j = go (Bool-discrete (within g w (depthBound g i j) A i j) true)

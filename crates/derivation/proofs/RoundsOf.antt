@@ -1,12 +1,11 @@
--- The computed rounds are the greatest depth, and fit in 16 bits.
+-- The computed rounds are the greatest depth.
 use Prim.Native.Nat.{ℕ, zero, suc, max, _≤_, _<_, suc-le-suc}
 use mathlib.Core.Path.{_≡_, refl, sym}
 use mathlib.Core.Logic.{_⊎_, inl, inr}
 use mathlib.Core.List.{List}
-use native.Mathlib.Nat.{le-trans, le-of-eq, le-of-suc-le-suc, not-suc-le-zero, eq-or-lt-of-le, le-max-left, le-max-right, mul-le-mul}
+use native.Mathlib.Nat.{le-trans, le-of-eq, le-of-suc-le-suc, not-suc-le-zero, eq-or-lt-of-le, le-max-left, le-max-right}
 use native.Mathlib.Decide.{decLe}
 use native.Mathlib.Omega.{arith}
-use lib.ListN.{length}
 use Rattle.derivation.specs.Grammar.{Grammar, Proper}
 use Rattle.derivation.specs.Depth.{Depth, DepthIs, noFact, deep}
 use Rattle.derivation.specs.Rounds.{RoundsIs}
@@ -15,7 +14,7 @@ use Rattle.derivation.specs.computed.RoundsOf.{greatest, roundsOf}
 use Rattle.derivation.proofs.Within.{tree-inside}
 use Rattle.derivation.proofs.Bound.{tree-category}
 use Rattle.derivation.proofs.Table.{depthOf-is, depthOf-depth}
-use Rattle.derivation.proofs.Rounds.{rounds-unique, rounds-most}
+use Rattle.derivation.proofs.Rounds.{rounds-unique}
 
 -- the greatest value is at least each one, and is one of them unless it is 0
 below-greatest : (f : ℕ → ℕ) (n k : ℕ) {d : ℕ} → k < n → d ≤ f k → d ≤ greatest f n
@@ -62,7 +61,3 @@ module _ (g : Grammar) (w : List ℕ) (proper : Proper g) where
 
   pub rounds-are : {r : ℕ} → RoundsIs g w r → r ≡ roundsOf g w
   rounds-are p = rounds-unique p roundsOf-is
-
-  -- so no depth passes 65,535
-  pub rounds-fit : length (g .categories) ≤ 32 → length w ≤ 63 → roundsOf g w ≤ 2048
-  rounds-fit a b = le-trans (rounds-most g w proper roundsOf-is) (mul-le-mul {m₂ = 64} a (omega arith))

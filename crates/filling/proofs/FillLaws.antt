@@ -3,7 +3,7 @@ use Prim.Native.Nat.{ℕ, zero, suc, pred, _+_, _-_, _*_, _≤_, _<_, zero-le}
 use mathlib.Core.Path.{_≡_, refl, sym, _∙_, ap}
 use mathlib.Core.Logic.{_↔_, _⊎_, inl, inr}
 use mathlib.Core.List.{List, _++_}
-use native.Mathlib.Nat.{le-trans, mul-le-mul}
+use native.Mathlib.Nat.{mul-le-mul}
 use native.Mathlib.Numerals.{add-one}
 use native.Mathlib.Omega.{arith}
 use lib.ListN.{length, getD, drop, replicate, length-replicate}
@@ -17,7 +17,7 @@ use Rattle.derivation.specs.Depth.{Depth}
 use Rattle.derivation.specs.computed.Table.{DepthAfter, found, notYet}
 use Rattle.derivation.proofs.Within.{tree-inside}
 use Rattle.derivation.proofs.Table.{height-pos}
-use Rattle.derivation.proofs.Decide.{rounds-bound}
+use Rattle.derivation.proofs.Decide.{depth-fits}
 use Rattle.derivation.proofs.Still.{NothingNew, after-new, after-same, holds-still, all-known, depth-settled}
 use Rattle.checks.specs.Memory.{chartSize, depthsSize}
 use Rattle.grammar.specs.Limits.{WithinLimits}
@@ -76,9 +76,7 @@ module _ {G : Grammar} {line : List ℕ} where
   -- so there are at most 2048 such rounds
   pub rounds-few : Given G line → {h changed : ℕ} → 0 < changed → Changed G line h changed → h ≤ 2048
   rounds-few given {h = zero} some c = zero-le
-  rounds-few given {h = suc h} some c =
-      let p = changed-depth some c in
-      le-trans (rounds-bound G line (given .proper) (p .3)) (mul-le-mul {n₂ = 32} {m₂ = 64} (given .limits .categories) (omega (arith, given .short)))
+  rounds-few given {h = suc h} some c = depth-fits G line (given .proper) (given .limits .categories) (given .short) (changed-depth some c .3)
 
 -- nothing changed: some round was run
 pub some-round : {G : Grammar} {line : List ℕ} {h changed : ℕ} → changed ≡ 0 → Changed G line h changed → 0 < h

@@ -17,16 +17,14 @@ pub record Checks : Type 0 where
   pub question : Check
   -- 9, the lowest place
   pub memory : Check
-  -- 12
-  pub filling : Check
   -- 10
   pub fact : Check
   -- 11
   pub room : Check
 
--- the refusals that change no lent memory: 1 to 9, and 12
+-- the refusals that change no lent memory: 1 to 9
 abbrev pub early : Checks → Check
-early c = andThen (c .grammar) (andThen (c .line) (andThen (c .question) (andThen (c .memory) (c .filling))))
+early c = andThen (c .grammar) (andThen (c .line) (andThen (c .question) (c .memory)))
 
 -- the refusals after the filling: 10, then 11
 abbrev pub late : Checks → Check

@@ -19,7 +19,6 @@ use Rattle.refusals.specs.declared.Refusal.the-variants.{
   MarksTooSmall,
   ForestTooSmall,
   TreeTooSmall,
-  DepthTooLarge,
   JobBadlyFormed,
 }
 
@@ -43,5 +42,4 @@ rowOf TreeOfNoFact = no 10 0
 rowOf (MarksTooSmall needed) = no 11 needed
 rowOf (ForestTooSmall needed) = no 11 needed
 rowOf TreeTooSmall = no 11 0
-rowOf DepthTooLarge = no 12 0
 rowOf (JobBadlyFormed at) = no 13 at

@@ -23,7 +23,6 @@ pub enum Refusal {
     MarksTooSmall { needed: usize },
     ForestTooSmall { needed: usize },
     TreeTooSmall,
-    DepthTooLarge,
     JobBadlyFormed { at: usize },
 }
 
@@ -106,10 +105,6 @@ pub fn row_of(refusal: Refusal) -> Row
         },
         Refusal::TreeTooSmall => Row {
             number: 11,
-            place: 0,
-        },
-        Refusal::DepthTooLarge => Row {
-            number: 12,
             place: 0,
         },
         Refusal::JobBadlyFormed { at } => Row {

@@ -10,7 +10,6 @@ use Rattle.checks.specs.declared.Asked.the-variants.{Nothing}
 use Rattle.grammar.specs.declared.reading.Sections.{Sections}
 use Rattle.grammar.specs.declared.reading.Reading.the-variants.{Refused}
 use Rattle.grammar.specs.Reading.{readOf}
-use Rattle.grammar.specs.Given.{grammarGiven}
 use Rattle.chart.specs.inner.Checked.{checkedOf}
 use Rattle.chart.specs.Checks.{chartChecks}
 use Rattle.chart.proofs.CheckLaws.{Passes, checked-refused, early-passed}
@@ -25,7 +24,7 @@ unfolding lentDepths
 depths-lent = length-replicate {A = ℕ} 16384 0
 
 pub job-refused : (g line : List ℕ) (refusal : Refusal) → checkedOf (readOf g) line Nothing 512 16384 ≡ Refused refusal → reported (chartChecks g line lentWords lentDepths) ≡ check.Refused refusal
-job-refused g line refusal e = rw (checked-refused (readOf g) (grammarGiven g) line Nothing lentWords lentDepths check.Passed check.Passed refusal (rw (words-lent, depths-lent) e))
+job-refused g line refusal e = rw (checked-refused g line Nothing lentWords lentDepths check.Passed check.Passed refusal (rw (words-lent, depths-lent) e))
 
 pub job-passed : {g line : List ℕ} {s : Sections} → Passes g line Nothing 512 16384 s → reported (chartChecks g line lentWords lentDepths) ≡ check.Passed
 job-passed {g = g} {line = line} {s = s} passes = rw (early-passed {g = g} {line = line} {asked = Nothing} lentWords lentDepths {s = s} check.Passed check.Passed (rw (words-lent, depths-lent) passes))

@@ -1,13 +1,13 @@
 //! The questions of Berylskip for Rust: a grammar's bytes and a line of token classes in, facts, marks, a forest and a tree out.
 //!
 //! Every question fills the lent work memory anew: [`words_needed`] words and [`depths_needed`] depths. Memory past these keeps
-//! what it held. A question that is turned down answers [`Refused`]. After the numbers 1 to 9 and 12 all lent memory is as
+//! what it held. A question that is turned down answers [`Refused`]. After the numbers 1 to 9 all lent memory is as
 //! before; after 10 and 11 the work memory is filled, and the marks, the tree's bytes or the records are as before.
 //!
 //! The thread that asks needs 64 KiB of stack, or 1 MiB where it asks for a tree (docs/CONTRACTS.md, Stack).
 mod raw;
 
-/// A question was turned down: the refusal's number, 1 to 12, and its place (docs/REFUSALS.md).
+/// A question was turned down: the refusal's number, 1 to 11, and its place (docs/REFUSALS.md).
 #[derive(Clone, Copy, Debug, PartialEq, Eq)]
 pub struct Refused {
     pub number: u8,

@@ -10,8 +10,6 @@ use Rattle.refusals.specs.declared.Check.the-variants.{Passed}
 use Rattle.checks.specs.declared.Asked.the-variants.{Nothing}
 use Rattle.checks.specs.Memory.{chartSize}
 use Rattle.checks.proofs.Laws.{chart-small}
-use Rattle.grammar.specs.Reading.{readOf}
-use Rattle.grammar.specs.Given.{grammarGiven}
 use Rattle.chart.proofs.CheckLaws.{Passes, checked-refused, checked-accepted, line-is, memory-is, fillable, categories-few}
 use Rattle.chart.proofs.OutcomeLaws.{chart-turned, chart-filled}
 use Rattle.chart.proofs.chart.Statement.{statement}
@@ -40,7 +38,7 @@ returns : tie.Need-returns
 returns c =
     let checks = c .before .before .before in
     let a = origin checks .args in
-    chart-turned _ _ _ _ _ (checked-refused (readOf (now (a .g))) (grammarGiven (now (a .g))) (now (a .line)) Nothing (now (a .words)) (now (a .depths)) Passed Passed _ (sym (checks .checked .ensures) ∙ c .before .refusal .given .1))
+    chart-turned _ _ _ _ _ (checked-refused (now (a .g)) (now (a .line)) Nothing (now (a .words)) (now (a .depths)) Passed Passed _ (sym (checks .checked .ensures) ∙ c .before .refusal .given .1))
 
 count-ends-requires : tie.Need-count-ends-requires
 count-ends-requires c κs =

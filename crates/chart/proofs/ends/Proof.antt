@@ -10,8 +10,6 @@ use Rattle.refusals.specs.declared.Check.the-variants.{Passed}
 use Rattle.checks.specs.declared.Asked.the-variants.{Start}
 use Rattle.checks.specs.Memory.{chartSize}
 use Rattle.checks.proofs.Laws.{chart-small, start-passed}
-use Rattle.grammar.specs.Reading.{readOf}
-use Rattle.grammar.specs.Given.{grammarGiven}
 use Rattle.filling.proofs.RowLaws.{row-inside}
 use Rattle.chart.proofs.CheckLaws.{Passes, checked-refused, checked-accepted, line-is, asked-is, memory-is, fillable, categories-few}
 use Rattle.chart.proofs.OutcomeLaws.{ends-turned, ends-found}
@@ -51,7 +49,7 @@ returns c =
     let checks = c .before .before .before in
     let a = origin checks .args in
     let asked = Start (a .category) (a .start) in
-    ends-turned _ _ _ _ _ _ _ (checked-refused (readOf (now (a .g))) (grammarGiven (now (a .g))) (now (a .line)) asked (now (a .words)) (now (a .depths)) Passed Passed _ (sym (checks .checked .ensures) ∙ c .before .refusal .given .1))
+    ends-turned _ _ _ _ _ _ _ (checked-refused (now (a .g)) (now (a .line)) asked (now (a .words)) (now (a .depths)) Passed Passed _ (sym (checks .checked .ensures) ∙ c .before .refusal .given .1))
 
 slice-read-row : tie.Need-slice-read-row
 slice-read-row c =

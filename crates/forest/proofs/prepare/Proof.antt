@@ -7,8 +7,6 @@ use lib.ListN.{length}
 use denote.Ref.{now}
 use Rattle.refusals.specs.declared.Check.the-variants.{Passed}
 use Rattle.checks.specs.declared.Asked.the-variants.{Nothing}
-use Rattle.grammar.specs.Reading.{readOf}
-use Rattle.grammar.specs.Given.{grammarGiven}
 use Rattle.chart.proofs.CheckLaws.{Passes, checked-refused, checked-accepted, fillable}
 use Rattle.forest.proofs.PlanLaws.{plan-turned, sections-are, charted, first-stands, plan-refused, plan-found, plan-empty}
 use Rattle.forest.proofs.prepare.Statement.{statement}
@@ -36,7 +34,7 @@ returns : tie.Need-returns
 returns c =
     let checks = c .before .before .before in
     let a = origin checks .args in
-    plan-turned _ _ _ _ _ _ _ (checked-refused (readOf (now (a .g))) (grammarGiven (now (a .g))) (now (a .line)) Nothing (now (a .words)) (now (a .depths)) Passed Passed _ (sym (checks .checked .ensures) ∙ c .before .refusal .given .1))
+    plan-turned _ _ _ _ _ _ _ (checked-refused (now (a .g)) (now (a .line)) Nothing (now (a .words)) (now (a .depths)) Passed Passed _ (sym (checks .checked .ensures) ∙ c .before .refusal .given .1))
 
 count-records-requires : tie.Need-count-records-requires
 count-records-requires c κs =

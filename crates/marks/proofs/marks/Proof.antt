@@ -6,8 +6,6 @@ use lib.ListN.{length}
 use denote.Ref.{now}
 use Rattle.refusals.specs.declared.Check.the-variants.{Passed}
 use Rattle.checks.specs.declared.Asked.the-variants.{Nothing}
-use Rattle.grammar.specs.Reading.{readOf}
-use Rattle.grammar.specs.Given.{grammarGiven}
 use Rattle.grammar.proofs.Encoded.{category-count}
 use Rattle.chart.proofs.CheckLaws.{Passes, checked-refused, checked-accepted, sections, line-is, memory-is, fillable}
 use Rattle.marks.specs.Outcome.{marksRoom}
@@ -35,7 +33,7 @@ returns c =
     let checks = c .before .before .before in
     let a = origin checks .args in
     let room = marksRoom (now (a .line)) (now (a .marks)) in
-    marks-turned _ _ _ _ _ _ (checked-refused (readOf (now (a .g))) (grammarGiven (now (a .g))) (now (a .line)) Nothing (now (a .words)) (now (a .depths)) Passed room _ (sym (checks .checked .ensures) ∙ c .before .refusal .given .1))
+    marks-turned _ _ _ _ _ _ (checked-refused (now (a .g)) (now (a .line)) Nothing (now (a .words)) (now (a .depths)) Passed room _ (sym (checks .checked .ensures) ∙ c .before .refusal .given .1))
 
 returns-2 : tie.Need-returns-2
 returns-2 c =

@@ -4,7 +4,6 @@ use lib.ListN.{length}
 use denote.Ref.{now}
 use Rattle.checks.specs.declared.Asked.the-variants.{Span}
 use Rattle.checks.proofs.Laws.{span-passed}
-use Rattle.grammar.specs.Reading.{readOf}
 use Rattle.grammar.specs.Given.{grammarGiven}
 use Rattle.chart.proofs.CheckLaws.{Passes, checked-refused, checked-accepted, line-is, asked-is, memory-is, fillable}
 use Rattle.refusals.specs.declared.Check.the-variants.{Passed}
@@ -36,7 +35,7 @@ returns c =
     let a = origin checks .args in
     let asked = Span (a .category) (a .start) (a .end) in
     let G = grammarGiven (now (a .g)) in
-    tree-turned _ _ _ _ _ _ _ _ _ (checked-refused (readOf (now (a .g))) G (now (a .line)) asked (now (a .words)) (now (a .depths)) Passed Passed _ (sym (checks .checked .ensures) ∙ c .before .refusal .given .1))
+    tree-turned _ _ _ _ _ _ _ _ _ (checked-refused (now (a .g)) (now (a .line)) asked (now (a .words)) (now (a .depths)) Passed Passed _ (sym (checks .checked .ensures) ∙ c .before .refusal .given .1))
 
 show-requires : tie.Need-show-requires
 show-requires c κs =

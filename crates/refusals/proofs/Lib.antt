@@ -1,0 +1,2 @@
+-- Laws of the table of refusals.
+pub mod Numbers
