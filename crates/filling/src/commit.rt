@@ -14,7 +14,7 @@ pub fn write_depths(depths: &mut [u16], base: usize, set: u64, depth: u16)
     while left != 0 {
         let j = positions::first(left) as usize;
         depths[base + j] = depth;
-        left -= 1 << j;
+        left = left & (left - 1);
     }
 }
 

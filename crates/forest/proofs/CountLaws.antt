@@ -1,16 +1,20 @@
 -- The number of records is a total over rules, places, starts and middles.
 use Prim.Native.Nat.{ℕ, zero, suc, _+_, _-_, _*_, _≤_, _<_, zero-le, suc-le-suc}
 use mathlib.Core.Path.{_≡_, refl, sym, ap, _∙_}
+use mathlib.Core.Logic.{⊎-elim}
 use mathlib.Core.Bool.{Bool, true, false, _&&_, cond}
 use mathlib.Core.List.{List}
-use native.Mathlib.Nat.{le-refl, le-step, zero-add, suc-mul}
+use native.Mathlib.Nat.{le-refl, le-step, zero-add, zero-mul, one-mul, suc-mul}
+use native.Mathlib.Decide.{ℕ-discrete}
 use native.Mathlib.Omega.{arith}
+use lib.Bits.{bitAnd}
 use lib.ListN.{length, getD, take}
 use lib.Dec.{ltb}
 use borrow.Author.Tests.{lt-ltb, le-leb}
 use Rattle.positions.specs.Member.{digit, Member}
 use Rattle.positions.specs.Count.{countBelow}
-use Rattle.positions.proofs.Members.{no-digit}
+use Rattle.positions.proofs.Members.{member?, no-digit, none-member}
+use Rattle.positions.proofs.Taking.{Taken}
 use Rattle.derivation.specs.Grammar.{Grammar, Proper, ruleAt}
 use Rattle.derivation.specs.Tree.{Child, Children}
 use Rattle.derivation.specs.computed.Round.{child, children}
@@ -34,6 +38,43 @@ total-first f (suc n) = omega (arith, total-first f n)
 
 total-zero : (f : ℕ → ℕ) (n : ℕ) → ((k : ℕ) → f k ≡ 0) → total f n ≡ 0
 total-zero f n h = ap (total f) (sym (zero-add n)) ∙ total-past f 0 n (λ k l. h k) ∙ total-none f
+
+-- a total's number at e apart
+total-apart : (f h : ℕ → ℕ) (e n : ℕ) → e < n → h e ≡ 0 → ((k : ℕ) → (k ≡ e → ⊥) → f k ≡ h k) → total f n ≡ f e + total h n
+unfolding total
+total-apart f h e zero l z same = absurd (omega arith)
+total-apart f h e (suc n) l z same = go (ℕ-discrete n e) (λ k. total-apart f h e n k z same)
+  where
+    go : Dec (n ≡ e) → (e < n → total f n ≡ f e + total h n) → total f n + f n ≡ f e + (total h n + h n)
+    go (yes q) before = omega (arith, total-same f h n (λ k b. same k (λ p. omega arith)), ap f q, ap h q, z)
+    go (no m) before = omega (arith, before (omega arith), same n m)
+
+-- the numbers of a set's members, and 0 for the others
+abbrev pub chosen : ℕ → (ℕ → ℕ) → ℕ → ℕ
+chosen set f m = digit set m * f m
+
+module _ (f : ℕ → ℕ) where
+  chosen-in : (set m : ℕ) → Member set m → chosen set f m ≡ f m
+  chosen-in set m h = ap (λ (x : ℕ). x * f m) h ∙ one-mul (f m)
+
+  chosen-out : (set m : ℕ) → (Member set m → ⊥) → chosen set f m ≡ 0
+  chosen-out set m n = ap (λ (x : ℕ). x * f m) (no-digit set m n) ∙ zero-mul (f m)
+
+  -- no other number counts
+  pub chosen-whole : (set n : ℕ) → ((m : ℕ) → (Member set m → ⊥) → f m ≡ 0) → total (chosen set f) n ≡ total f n
+  chosen-whole set n none = total-same _ _ n (λ m l. ⊎-elim (chosen-in set m) (λ z. chosen-out set m z ∙ sym (none m z)) (member? set m))
+
+  -- the number of the first member apart
+  pub chosen-less : (left e n : ℕ) → Taken left e → e < n → total (chosen left f) n ≡ f e + total (chosen (bitAnd left (left - 1)) f) n
+  chosen-less left e n t l =
+      let rest = bitAnd left (left - 1) in
+      let gone = chosen-out rest e (λ h. t .rest e .0 h .1 refl) in
+      let other : (k : ℕ) → (k ≡ e → ⊥) → chosen left f k ≡ chosen rest f k =
+      λ k n. ⊎-elim (λ h. chosen-in left k h ∙ sym (chosen-in rest k (t .rest k .1 (h, n)))) (λ z. chosen-out left k z ∙ sym (chosen-out rest k (λ h. z (t .rest k .0 h .0)))) (member? left k) in
+      total-apart (chosen left f) (chosen rest f) e n l gone other ∙ ap (λ (x : ℕ). x + total (chosen rest f) n) (chosen-in left e (t .here))
+
+  pub chosen-none : (n : ℕ) → total (chosen 0 f) n ≡ 0
+  chosen-none n = total-zero _ n (λ m. chosen-out 0 m (none-member m))
 
 one-le : (b : Bool) → cond b 1 0 ≤ 1
 one-le true = le-refl 1

@@ -1,16 +1,15 @@
 -- The ends of a symbol from one position and from a set of positions, and those of a rule's first symbols, one symbol at a time.
-use Prim.Native.Nat.{ℕ, suc, _+_, _-_, _*_, _≤_, _<_}
+use Prim.Native.Nat.{ℕ, zero, suc, _+_, _-_, _*_, _≤_, _<_}
 use mathlib.Core.Path.{_≡_, sym, subst, _∙_}
-use mathlib.Core.Logic.{_↔_, _⊎_, inl, inr, ⊎-elim}
+use mathlib.Core.Logic.{inr, ⊎-elim}
 use mathlib.Core.List.{List}
-use native.Mathlib.Nat.{le-refl, le-add-right, le-add-left, lt-of-lt-of-le, eq-or-lt-of-le}
+use native.Mathlib.Nat.{le-refl, le-add-right, le-add-left, lt-of-lt-of-le, add-zero}
 use native.Mathlib.Numerals.{add-one}
 use native.Mathlib.Omega.{arith}
-use lib.Bits.{bitOr}
 use lib.ListN.{length, getD, take}
 use Rattle.positions.specs.Member.{Member}
 use Rattle.positions.specs.With.{With}
-use Rattle.positions.proofs.Members.{none-member, or-member}
+use Rattle.positions.proofs.Members.{none-member}
 use Rattle.derivation.specs.Grammar.{Grammar, Proper}
 use Rattle.derivation.specs.Tree.{Tree, Child, Children, token, category, stop, childHeight, childrenHeight}
 use Rattle.derivation.proofs.Within.{children-inside}
@@ -25,7 +24,7 @@ use Rattle.grammar.proofs.Encoded.{category-count, rule-count, sections-within,
 use Rattle.filling.proofs.PrefixLaws.{stays}
 use Rattle.filling.proofs.RowLaws.{row-inside}
 use Rattle.forest.specs.inner.Charted.{Charted, RuleStands, Standing}
-use Rattle.forest.specs.inner.Ends.{SymbolDerives, SymbolEnds, StepEnds, PrefixEnds}
+use Rattle.forest.specs.inner.Ends.{SymbolEnds, StepEnds, PrefixEnds}
 
 -- a class derives one token, and a category what its facts are
 child-class : {g : Grammar} {w : List ℕ} {c i j : ℕ} → c < 128 → Child g w c i j → (i < length w) × (getD w i 0 ≡ c) × (j ≡ suc i)
@@ -86,30 +85,6 @@ module _ (g line words : List ℕ) (chart : Charted g line words) where
         λ b. w j .1 (inr (child-class k b .2 ∙ sym (add-one m))),
       )
 
--- the ends of symbol d from those positions of a set that are below k
-abbrev pub StepBelow : List ℕ → List ℕ → ℕ → ℕ → ℕ → ℕ → ℕ → Type 0
-StepBelow g line at d set k r = (j : ℕ) → Member r j ↔ ((m : ℕ) × (m < k) × Member set m × SymbolDerives g line at d m j)
-
-module _ (g line : List ℕ) (at d set : ℕ) where
-  pub step-none : StepBelow g line at d set 0 0
-  step-none j = (λ z. absurd (none-member j z), λ v. absurd (omega (arith, v .1)))
-
-  pub step-skip : (k r : ℕ) → (Member set k → ⊥) → StepBelow g line at d set k r → StepBelow g line at d set (k + 1) r
-  step-skip k r n u j = (
-    λ z. let v = u j .0 z in (v .0, omega (arith, v .1), v .2, v .3),
-    λ v. ⊎-elim (λ e. absurd (n (rw e at (v .2)))) (λ l. u j .1 (v .0, l, v .2, v .3)) (eq-or-lt-of-le {n = v .0} {m = k} (omega (arith, v .1))),
-  )
-
-  pub step-take : (k r ends : ℕ) → Member set k → StepBelow g line at d set k r → SymbolEnds g line at d k ends → StepBelow g line at d set (k + 1) (bitOr r ends)
-  step-take k r ends i u w j =
-      let o = or-member r ends j in (
-        λ z. ⊎-elim (λ a. let v = u j .0 a in (v .0, omega (arith, v .1), v .2, v .3)) (λ b. (k, omega arith, i, w j .0 b)) (o .0 z),
-        λ v. o .1 (⊎-elim (λ e. inr (w j .1 (rw e at (v .3)))) (λ l. inl (u j .1 (v .0, l, v .2, v .3))) (eq-or-lt-of-le {n = v .0} {m = k} (omega (arith, v .1)))),
-      )
-
-  pub step-all : (k r : ℕ) → ((m : ℕ) → Member set m → m < k) → StepBelow g line at d set k r → StepEnds g line at d set r
-  step-all k r low u j = (λ z. let v = u j .0 z in (v .0, v .2, v .3), λ v. u j .1 (v .0, low (v .0) (v .1), v .1, v .2))
-
 module _ (g line : List ℕ) (at i : ℕ) where
   pub prefix-none : (r : ℕ) → i ≤ length line → With 0 i r → PrefixEnds g line at 0 i r
   prefix-none r l w m = (
@@ -135,3 +110,11 @@ module _ (g line : List ℕ) (at i : ℕ) where
 
   pub prefix-inside : (d r : ℕ) → PrefixEnds g line at d i r → (m : ℕ) → Member r m → m ≤ length line
   prefix-inside d r u m z = children-inside (u m .0 z) .ends
+
+  -- where the first d symbols have no end, more have none
+  pub prefix-empty : (d x : ℕ) → d + x ≤ length (standing g at .right) → PrefixEnds g line at d i 0 → PrefixEnds g line at (d + x) i 0
+  prefix-empty d zero l u = rw add-zero u
+  prefix-empty d (suc x) l u =
+      let step : StepEnds g line at (d + x) 0 0 = λ j. (λ z. absurd (none-member j z), λ v. absurd (none-member (v .0) (v .1))) in
+      let one : d + x + 1 ≡ d + suc x = omega arith in
+      subst (λ (k : ℕ). PrefixEnds g line at k i 0) one (prefix-more (d + x) 0 0 (omega arith) (prefix-empty d x (omega arith) u) step)

@@ -23,15 +23,12 @@ pub fn count_start(g: &[u8], at: usize, d: usize, line: &[u8], words: &[u64], st
         ⌝ }
     ensures { λ r. ⌜ r ≡ startCount (grammarGiven (now (g .entry))) (now (line .entry)) (standing (now (g .entry)) at .right) d start ⌝ }
 {
-    let width = line.len() + 1;
-    let middles = prefix_ends(g, at, d, line, words, start);
+    let mut left = prefix_ends(g, at, d, line, words, start);
     let mut records = 0;
-    let mut m = 0;
-    while m < width {
-        if positions::member(middles, m) {
-            records += positions::count(symbol_ends(g, at, d, line, words, m)) as usize;
-        }
-        m += 1;
+    while left != 0 {
+        let m = positions::first(left) as usize;
+        records += positions::count(symbol_ends(g, at, d, line, words, m)) as usize;
+        left = left & (left - 1);
     }
     records
 }

@@ -42,14 +42,12 @@ pub fn step_ends(g: &[u8], at: usize, d: usize, line: &[u8], words: &[u64], set:
         ⌝ }
     ensures { λ r. ⌜ StepEnds (now (g .entry)) (now (line .entry)) at d set r ⌝ }
 {
-    let width = line.len() + 1;
     let mut all = 0u64;
-    let mut m = 0;
-    while m < width {
-        if positions::member(set, m) {
-            all |= symbol_ends(g, at, d, line, words, m);
-        }
-        m += 1;
+    let mut left = set;
+    while left != 0 {
+        let m = positions::first(left) as usize;
+        all |= symbol_ends(g, at, d, line, words, m);
+        left = left & (left - 1);
     }
     all
 }
@@ -67,6 +65,9 @@ pub fn prefix_ends(g: &[u8], at: usize, d: usize, line: &[u8], words: &[u64], st
     let mut ends = positions::insert(0, start);
     let mut k = 0;
     while k < d {
+        if ends == 0 {
+            return 0;
+        }
         ends = step_ends(g, at, k, line, words, ends);
         k += 1;
     }

@@ -48,7 +48,7 @@ pub fn stand(
         },
         at,
         middles,
-        ends: ends - (1 << end),
+        ends: ends & (ends - 1),
     }
 }
 
@@ -71,15 +71,21 @@ pub fn seek_middle(
     ensures { λ r. ⌜ FirstMiddle (now (g .entry)) (now (line .entry)) at d middles from r ⌝ }
 {
     let width = line.len() + 1;
-    let mut m = from;
+    if width <= from {
+        return Spot {
+            middle: from,
+            ends: 0,
+        };
+    }
+    let mut left = (middles >> from) << from;
+    let mut m = positions::first(left) as usize;
     while m < width {
-        if positions::member(middles, m) {
-            let ends = symbol_ends(g, at, d, line, words, m);
-            if ends != 0 {
-                return Spot { middle: m, ends };
-            }
+        let ends = symbol_ends(g, at, d, line, words, m);
+        if ends != 0 {
+            return Spot { middle: m, ends };
         }
-        m += 1;
+        left = left & (left - 1);
+        m = positions::first(left) as usize;
     }
     Spot { middle: m, ends: 0 }
 }

@@ -4,5 +4,7 @@ pub mod Members
 pub mod Shifts
 pub mod Counts
 pub mod Extremes
+pub mod Taking
+pub mod Cuts
 pub mod Unions
 pub mod Unique

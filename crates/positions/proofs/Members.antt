@@ -1,8 +1,8 @@
--- The members of a word: of 0, of one digit, of `or`, `and` and `xor`, and of a word less one member; two words with the same members are equal.
+-- The members of a word: of 0, of one digit, and of `or`, `and` and `xor`; two words with the same members are equal.
 use mathlib.Core.Path.{_≡_, refl, sym, ap, ap₂, _∙_}
 use mathlib.Core.Logic.{_⊎_, inl, inr, ⊎-elim, _↔_}
 use mathlib.Core.Bool.{Bool, true, false}
-use Prim.Native.Nat.{ℕ, zero, suc, _+_, _-_, _^_, _≤_, _<_}
+use Prim.Native.Nat.{ℕ, zero, suc, _+_, _^_, _≤_, _<_}
 use native.Mathlib.Nat.{pow-suc, lt-of-lt-of-le, le-add-right, le-add-left, eq-zero-or-pos}
 use native.Mathlib.Omega.{arith}
 use lib.Dec.{eqb}
@@ -113,21 +113,3 @@ word-below x k below =
 -- two words that differ do so at some position
 pub xor-some : (a b : ℕ) → (a ≡ b → ⊥) → (j : ℕ) × Member (bitXor a b) j
 xor-some a b n = some-member (bitXor a b) (omega (arith, xor-add-and a b, and-le-l a b, and-le-r a b))
-
--- a member k as a word of one digit, and the word less it
-module _ (x k : ℕ) (m : Member x k) where
-  and-one : bitAnd x (2 ^ k) ≡ 2 ^ k
-  and-one =
-      same-members (bitAnd x (2 ^ k)) (2 ^ k)
-      (λ j. (λ h. and-member x (2 ^ k) j .0 h .1, λ h. and-member x (2 ^ k) j .1 (rw (one-member k j .0 h) m, h)))
-
-  pub one-le : 2 ^ k ≤ x
-  one-le = omega (arith, and-one, and-le-l x (2 ^ k))
-
-  pub less-member : (j : ℕ) → Member (x - 2 ^ k) j ↔ (Member x j × (j ≡ k → ⊥))
-  less-member j =
-      let e : x - 2 ^ k ≡ bitXor x (2 ^ k) = omega (arith, and-one, xor-add-and x (2 ^ k)) in
-      let s = xor-member x (2 ^ k) j (λ h. rw (one-member k j .0 h) m) in (
-        λ h. let p = s .0 (rw e at h) in (p .0, λ q. p .1 (one-member k j .1 q)),
-        λ p. rw e (s .1 (p .0, λ h. p .1 (one-member k j .0 h))),
-      )

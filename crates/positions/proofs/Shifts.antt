@@ -12,7 +12,7 @@ use Rattle.positions.specs.AfterClass.{AfterClass}
 use Rattle.positions.proofs.Digits.{double-zero, double-suc}
 use Rattle.positions.proofs.Members.{one-member, or-member, and-member}
 
-pub one-shifted : (k : ℕ) → k < 64 → (1 * 2 ^ k) % 2 ^ 64 ≡ 2 ^ k
+one-shifted : (k : ℕ) → k < 64 → (1 * 2 ^ k) % 2 ^ 64 ≡ 2 ^ k
 one-shifted k h = shl-exact 1 k 64 (lit< tt) (omega arith) ∙ one-mul (2 ^ k)
 
 with-one : (set k : ℕ) → With set k (bitOr set (2 ^ k))

@@ -54,13 +54,28 @@ pub fn union(set: u64, rows: &[u64], base: usize, from: usize, width: usize) -> 
     requires { ⌜ (width ≤ 64) × (base + width ≤ length (now rows)) ⌝ }
     ensures { λ r. ⌜ Union set (now (rows .entry)) base from width r ⌝ }
 {
+    if width <= from {
+        return 0;
+    }
     let mut all = 0u64;
-    let mut m = from;
-    while m < width {
-        if member(set, m) {
-            all |= rows[base + m];
+    let mut left = ((set >> from) << from) & (0xffff_ffff_ffff_ffff >> (64 - width));
+    // The members that have the next seven positions beside them in the set: from such a one on, a run of members is taken at once.
+    let pairs = left & (left >> 1);
+    let fours = pairs & (pairs >> 2);
+    let runs = fours & (fours >> 4);
+    while left != 0 {
+        let mut m = first(left) as usize;
+        all |= rows[base + m];
+        if runs == 0 || (runs >> m) & 1 == 0 {
+            left = left & (left - 1);
+        } else {
+            let last = m + first((left >> m) ^ 0xffff_ffff_ffff_ffff) as usize - 1;
+            while m < last {
+                m += 1;
+                all |= rows[base + m];
+            }
+            left = ((left >> last) - 1) << last;
         }
-        m += 1;
     }
     all
 }

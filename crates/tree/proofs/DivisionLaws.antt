@@ -1,5 +1,5 @@
 -- The memory of a category, and jumps from member to member of a set.
-use Prim.Native.Nat.{ℕ, suc, _+_, _-_, _*_, _%_, _^_, _≤_, _<_}
+use Prim.Native.Nat.{ℕ, suc, _+_, _-_, _*_, _≤_, _<_}
 use mathlib.Core.Path.{_≡_, refl, subst}
 use mathlib.Core.Logic.{_↔_, _⊎_, inl, inr, ⊎-elim}
 use mathlib.Core.Bool.{Bool, true, false, not, false≢true}
@@ -7,16 +7,14 @@ use mathlib.Core.List.{List, [], _∷_}
 use native.Mathlib.Nat.{le-trans, lt-of-lt-of-le, mul-le-mul-right}
 use native.Mathlib.Decide.{ℕ-discrete}
 use native.Mathlib.Omega.{arith}
+use lib.Bits.{bitAnd}
 use lib.ListN.{length, getD}
 use lib.Dec.{eqb}
-use lib.Pow.{pow-pos}
 use borrow.Author.Tests.{eqb-true, eqb-false, not-false}
 use Rattle.positions.specs.Member.{Member}
-use Rattle.positions.specs.First.{First}
 use Rattle.positions.specs.With.{With}
-use Rattle.positions.proofs.Members.{none-member, one-le, less-member}
-use Rattle.positions.proofs.Extremes.{first-empty}
-use Rattle.positions.proofs.Shifts.{one-shifted}
+use Rattle.positions.proofs.Members.{none-member}
+use Rattle.positions.proofs.Taking.{Taken}
 use Rattle.derivation.specs.Grammar.{Grammar, Rule}
 use Rattle.derivation.specs.Tree.{Children, stop}
 use Rattle.derivation.specs.inner.Within.{ChildWithin, ChildrenWithin}
@@ -41,23 +39,6 @@ rows-inside categories n words A l room = le-trans (mul-le-mul-right (n + 1) l) 
 pub depths-inside : (categories n numbers A : ℕ) → A < categories → depthsSize categories n ≤ numbers → depthsSize (suc A) n ≤ numbers
 depths-inside categories n numbers A l room = le-trans (mul-le-mul-right (n + 1) (mul-le-mul-right (n + 1) l)) room
 
--- the first member e of a set, and what is left without it
-pub record Taken (left e : ℕ) : Type 0 where
-  pub small : e < 64
-  pub here : Member left e
-  pub power : (1 * 2 ^ e) % 2 ^ 64 ≡ 2 ^ e
-  pub covered : 2 ^ e ≤ left
-  pub less : left - 2 ^ e < left
-  pub rest : (j : ℕ) → Member (left - 2 ^ e) j ↔ (Member left j × (j ≡ e → ⊥))
-
-pub taken : (left e : ℕ) → left < 2 ^ 64 → (left ≡ 0 → ⊥) → First left e → Taken left e
-taken left e fits some f =
-    let n : e ≡ 64 → ⊥ = λ q. some (first-empty left e fits f .0 q) in
-    let small : e < 64 = omega (arith, f .within) in
-    let here = f .found small in
-    let low = one-le left e here in
-    record { small = small; here = here; power = one-shifted e small; covered = low; less = omega (arith, pow-pos e); rest = less-member left e here }
-
 -- the set's members that have left are tried, and those whose token before has the class have their starts
 pub record ClassTurn (line : List ℕ) (class set start left starts : ℕ) : Type 0 where
   pub low : left ≤ set
@@ -70,20 +51,20 @@ module _ (line : List ℕ) (class set start : ℕ) where
 
   module _ (left starts e : ℕ) (t : Taken left e) (turn : ClassTurn line class set start left starts) where
     -- one that was tried before stays so
-    tried-before : (m : ℕ) → Member starts m → (start ≤ m) × Member set (suc m) × (Member (left - 2 ^ e) (suc m) → ⊥) × (getD line m 0 ≡ class)
+    tried-before : (m : ℕ) → Member starts m → (start ≤ m) × Member set (suc m) × (Member (bitAnd left (left - 1)) (suc m) → ⊥) × (getD line m 0 ≡ class)
     tried-before m h = let p = turn .tried m .0 h in (p .0, p .1, λ k. p .2 (t .rest (suc m) .0 k .0), p .3)
 
     -- one that is tried now is e, or was tried before
-    tried-now : (m : ℕ) → (start ≤ m) × Member set (suc m) × (Member (left - 2 ^ e) (suc m) → ⊥) × (getD line m 0 ≡ class) → (suc m ≡ e) ⊎ Member starts m
+    tried-now : (m : ℕ) → (start ≤ m) × Member set (suc m) × (Member (bitAnd left (left - 1)) (suc m) → ⊥) × (getD line m 0 ≡ class) → (suc m ≡ e) ⊎ Member starts m
     tried-now m p = go (ℕ-discrete (suc m) e)
       where
         go : Dec (suc m ≡ e) → (suc m ≡ e) ⊎ Member starts m
         go (yes q) = inl q
         go (no n) = inr (turn .tried m .1 (p .0, p .1, λ k. p .2 (t .rest (suc m) .1 (k, n)), p .3))
 
-    pub class-more : (starts′ : ℕ) → start < e → getD line (e - 1) 0 ≡ class → With starts (e - 1) starts′ → ClassTurn line class set start (left - 2 ^ e) starts′
+    pub class-more : (starts′ : ℕ) → start < e → getD line (e - 1) 0 ≡ class → With starts (e - 1) starts′ → ClassTurn line class set start (bitAnd left (left - 1)) starts′
     class-more starts′ l q w = record {
-      low = omega (arith, turn .low);
+      low = omega (arith, turn .low, t .less);
       part = λ x m. turn .part x (t .rest x .0 m .0);
       tried = λ m. (
         λ h. ⊎-elim (tried-before m)
@@ -93,9 +74,9 @@ module _ (line : List ℕ) (class set start : ℕ) where
       );
     }
 
-    pub class-skip : (start < e → getD line (e - 1) 0 ≡ class → ⊥) → ClassTurn line class set start (left - 2 ^ e) starts
+    pub class-skip : (start < e → getD line (e - 1) 0 ≡ class → ⊥) → ClassTurn line class set start (bitAnd left (left - 1)) starts
     class-skip n = record {
-      low = omega (arith, turn .low);
+      low = omega (arith, turn .low, t .less);
       part = λ x m. turn .part x (t .rest x .0 m .0);
       tried = λ m. (
         tried-before m,

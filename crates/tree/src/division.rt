@@ -30,7 +30,7 @@ fn shallow_end(depths: &[u16], base: usize, ends: u64, h: u16) -> usize
         if depths[base + e] <= h {
             return e;
         }
-        left -= 1 << e;
+        left = left & (left - 1);
     }
     64
 }
@@ -84,7 +84,7 @@ fn class_starts(class: usize, line: &[u8], set: u64, start: usize) -> u64
                 starts = positions::insert(starts, e - 1);
             }
         }
-        left -= 1 << e;
+        left = left & (left - 1);
     }
     starts
 }

@@ -1,16 +1,13 @@
 -- `write_depths`: the entries of what is left, over those written, make those of the set; what is left falls.
 use mathlib.Core.Path.{_≡_, refl, sym, subst}
 use mathlib.Core.List.{List}
-use Prim.Native.Nat.{ℕ, _+_, _*_, _%_, _^_, _≤_, _<_}
+use Prim.Native.Nat.{ℕ, _+_, _≤_, _<_}
 use denote.Ref.{now}
 use native.Mathlib.Omega.{arith}
 use lib.ListN.{length, length-set}
-use lib.Pow.{pow-pos}
 use borrow.Author.Needs.{needs}
 use Rattle.positions.specs.Member.{Member}
-use Rattle.positions.proofs.Members.{one-le, less-member}
-use Rattle.positions.proofs.Extremes.{first-empty}
-use Rattle.positions.proofs.Shifts.{one-shifted}
+use Rattle.positions.proofs.Taking.{Taken, taken}
 use Rattle.filling.specs.inner.Commit.{Deepened}
 use Rattle.filling.proofs.DepthLaws.{deepened-none, deepened-less}
 use Rattle.filling.proofs.commit.write_depths.Statement.{statement}
@@ -29,26 +26,11 @@ module _ (c : tie.After-first Inv-loop μ-loop) where
   abbrev entry : tie.Start Inv-loop μ-loop
   entry = c .before .before .before .before
 
-  abbrev left : ℕ
-  left = c .before .before .loop .left
+  turn : Taken (c .before .before .loop .left) (c .first .result)
+  turn = taken _ _ (c .first .ensures) (omega (arith, c .before .before .loop .inv .0)) (c .before .loop-test .taken)
 
-  abbrev taken : ℕ
-  taken = c .first .result
-
-  small : taken < 64
-  small =
-      let e = first-empty left taken (omega (arith, c .before .before .loop .inv .0)) (c .first .ensures) in
-      let n : taken ≡ 64 → ⊥ = λ q. c .before .loop-test .taken (e .0 q) in
-      omega (arith, c .first .ensures .within)
-
-  here : Member left taken
-  here = c .first .ensures .found small
-
-  power : (1 * 2 ^ taken) % 2 ^ 64 ≡ 2 ^ taken
-  power = one-shifted taken small
-
-  room : let a = entry .args in a .base + taken < length (now (a .depths))
-  room = c .before .before .loop .inv .2 taken here
+  room : let a = entry .args in a .base + c .first .result < length (now (a .depths))
+  room = c .before .before .loop .inv .2 _ (turn .here)
 
 loop-holds : tie.Need-loop-holds Inv-loop μ-loop
 loop-holds c = (search needs, refl, c .before .pre, λ final d. d)
@@ -57,11 +39,11 @@ loop-again : tie.Need-loop-again Inv-loop μ-loop
 loop-again c =
     let a = entry c .args in
     let l = c .before .before .loop in
-    rw (power c) (
-      omega (arith, l .inv .0),
+    let t = turn c in (
+      omega (arith, l .inv .0, t .less),
       rw length-set (l .inv .1),
-      λ j m. l .inv .2 j (less-member _ _ (here c) j .0 m .0),
-      λ final d. l .inv .3 final (deepened-less (a .base) (a .depth) _ _ (here c) (l .depths) final (omega (arith, room c)) d),
+      λ j m. l .inv .2 j (t .rest j .0 m .0),
+      λ final d. l .inv .3 final (deepened-less (a .base) (a .depth) _ _ t (l .depths) final (omega (arith, room c)) d),
     )
 
 returns : tie.Need-returns Inv-loop μ-loop
@@ -79,9 +61,7 @@ write-depths-spec =
     loop-holds
     (λ c κs. search needs) (λ c. search needs) (λ c. omega (arith, room c)) (λ c. omega (arith, room c))
     (λ c. omega (arith, room c))
-    small
-    (λ c. rw (power c) (one-le _ _ (here c)))
-    (λ c. omega (arith, power c, one-le _ _ (here c), pow-pos (taken c)))
+    (λ c. turn c .some) (λ c. turn c .less)
     loop-again
     (λ c. c .before .loop .inv .1)
     returns)

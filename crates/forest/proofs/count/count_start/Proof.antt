@@ -1,78 +1,106 @@
--- `forest::count::count_start` meets its contract. The loop's invariant: `records` is the total of the middles below m.
-use Prim.Native.Nat.{suc, _-_, _≤_}
-use mathlib.Core.Path.{_≡_, sym}
-use mathlib.Core.Logic.{⊎-elim}
+-- `forest::count::count_start` meets its contract. The loop's invariant: `records`, with the total of what is left of the middles, is the whole.
+use Prim.Native.Nat.{ℕ, suc, _+_, _-_, _≤_}
+use mathlib.Core.Path.{_≡_}
+use mathlib.Core.List.{List}
 use native.Mathlib.Omega.{arith}
+use lib.Bits.{bitAnd}
 use lib.ListN.{length}
 use denote.Ref.{now}
 use borrow.Author.Needs.{needs}
-use Rattle.positions.proofs.Members.{member-true, member-false}
+use Rattle.positions.specs.Member.{Member}
 use Rattle.positions.proofs.Counts.{count-le}
+use Rattle.positions.proofs.Taking.{Taken, taken}
 use Rattle.derivation.specs.computed.FactCount.{total}
-use Rattle.derivation.proofs.Totals.{total-none, total-next}
+use Rattle.derivation.specs.Grammar.{Grammar}
 use Rattle.grammar.specs.Value.{standing}
 use Rattle.grammar.specs.Given.{grammarGiven}
-use Rattle.forest.specs.inner.Count.{middleCount}
-use Rattle.forest.proofs.EndsLaws.{proper}
-use Rattle.forest.proofs.CountLaws.{start-le, middle-none, middle-some}
+use Rattle.forest.specs.inner.Count.{middleCount, startCount}
+use Rattle.forest.proofs.EndsLaws.{proper, prefix-inside}
+use Rattle.forest.proofs.CountLaws.{start-le, middle-none, middle-some, chosen, chosen-whole, chosen-less, chosen-none}
 use Rattle.forest.proofs.count.count_start.Statement.{statement}
 use Rattle.forest.proofs.count.count_start.Tie as tie
 
+-- the records of a middle
+abbrev counts : List ℕ → ℕ → ℕ → List ℕ → ℕ → ℕ → ℕ
+counts g at d line start = middleCount (grammarGiven g) line (standing g at .right) d start
+
 abbrev Inv-loop : tie.InvT-loop
-Inv-loop g at d line words start width middles records₀ m₀ records m = (m ≤ width) × (records ≡ total (middleCount (grammarGiven g) line (standing g at .right) d start) m)
+Inv-loop g at d line words start left₀ records₀ left records =
+    (left ≤ left₀) × ((m : ℕ) → Member left m → Member left₀ m)
+    × (records + total (chosen left (counts g at d line start)) (suc (length line)) ≡ startCount (grammarGiven g) line (standing g at .right) d start)
 
 abbrev μ-loop : tie.MeasureT-loop
-μ-loop g at d line words start width middles records₀ m₀ records m = width - m
+μ-loop g at d line words start left₀ records₀ left records = left
 
--- the function's entry, from the loop
+-- the function's entry, and the middles
 abbrev entry : tie.At-loop Inv-loop μ-loop → tie.Start Inv-loop μ-loop
 entry c = c .before .before .before .before .before
+
+-- the middle that a turn takes: it is inside the line
+module _ (c : tie.After-first Inv-loop μ-loop) where
+  abbrev start : tie.Start Inv-loop μ-loop
+  start = entry (c .before .before)
+
+  abbrev G : Grammar
+  G = grammarGiven (now (start .args .g))
+
+  abbrev symbols : List ℕ
+  symbols = standing (now (start .args .g)) (start .args .at) .right
+
+  turn : Taken (c .before .before .loop .left) (c .first .result)
+  turn = taken _ _ (c .first .ensures) (omega (arith, c .before .before .loop .inv .0)) (c .before .loop-test .taken)
+
+  middle : Member (c .before .before .before .prefix-ends .result) (c .first .result)
+  middle = c .before .before .loop .inv .1 _ (turn .here)
+
+  short : c .first .result ≤ length (now (start .args .line))
+  short = prefix-inside _ _ _ _ (start .args .d) _ (c .before .before .before .prefix-ends .ensures) _ middle
+
+  -- the records of this middle apart, and few in all
+  abbrev counted : ℕ → ℕ
+  counted = middleCount G (now (start .args .line)) symbols (start .args .d) (start .args .start)
+
+  less : let left = c .before .before .loop .left in let n = suc (length (now (start .args .line))) in total (chosen left counted) n ≡ counted (c .first .result) + total (chosen (bitAnd left (left - 1)) counted) n
+  less = chosen-less counted _ _ _ turn (omega (arith, short))
+
+  few : startCount G (now (start .args .line)) symbols (start .args .d) (start .args .start) ≤ 4096
+  few = start-le G (now (start .args .line)) (start .pre .0 .isLine .short) symbols (start .args .d) (start .args .start) _ (omega arith)
 
 prefix-ends-requires : tie.Need-prefix-ends-requires Inv-loop μ-loop
 prefix-ends-requires c κs = let e = c .before .before .before in (e .pre .0, e .pre .1, omega (arith, e .pre .2), e .pre .3)
 
 loop-holds : tie.Need-loop-holds Inv-loop μ-loop
-loop-holds c = (search needs, sym (total-none _))
-
-member-requires : tie.Need-member-requires Inv-loop μ-loop
-member-requires c κs = let e = entry (c .before) in omega (arith, c .loop-test .taken, e .pre .0 .isLine .short)
+loop-holds c =
+    let e = c .before .before .before .before in
+    let whole = chosen-whole (counts (now (e .args .g)) (e .args .at) (e .args .d) (now (e .args .line)) (e .args .start)) (c .prefix-ends .result) (suc (length (now (e .args .line))))
+    (λ m n. middle-none _ _ (e .pre .0 .isLine .short) _ (e .args .d) (proper _ _ _ (e .pre .0)) (e .args .start) m (λ z. n (c .prefix-ends .ensures m .1 z))) in
+    (omega arith, λ m z. z, omega (arith, whole))
 
 symbol-ends-requires : tie.Need-symbol-ends-requires Inv-loop μ-loop
-symbol-ends-requires c κs = let e = entry (c .before .before .before) in (e .pre .0, e .pre .1, e .pre .2, omega (arith, c .before .before .loop-test .taken))
+symbol-ends-requires c κs = let e = start c in (e .pre .0, e .pre .1, e .pre .2, short c)
 
 add-records : tie.Need-add-records Inv-loop μ-loop
 add-records c =
-    let s = c .before in
-    let i = s .before .before .before in
-    let e = entry (i .before) in
-    let l = i .before .loop in
-    omega (arith, count-le 64 (s .symbol-ends .result), c .count .ensures, l .inv .1, start-le (grammarGiven (now (e .args .g))) (now (e .args .line)) (e .pre .0 .isLine .short) (standing (now (e .args .g)) (e .args .at) .right) (e .args .d) (e .args .start) (l .m) (omega (arith, i .loop-test .taken)))
+    let f = c .before .before in
+    omega (arith, count-le 64 (c .before .symbol-ends .result), c .count .ensures, f .before .before .loop .inv .2, few f)
 
 loop-again : tie.Need-loop-again Inv-loop μ-loop
 loop-again c =
-    let i = c .before .before in
-    let e = entry (i .before) in
-    let a = e .args in
-    let l = i .before .loop in
-    let b = c .before .member in
-    let G = grammarGiven (now (a .g)) in
-    let symbols = standing (now (a .g)) (a .at) .right in
-    let good = proper _ _ _ (e .pre .0) in
-    let short = e .pre .0 .isLine .short in
-    let w = i .before .before .prefix-ends .ensures (l .m) in
-    let more = total-next (middleCount G (now (a .line)) symbols (a .d) (a .start)) (l .m) in (
-      search needs,
-      ⊎-elim
-          (λ p. omega (arith, p .3, l .inv .1, p .2 .ensures, more, middle-some G (now (a .line)) short symbols (a .d) good (a .start) (l .m) (p .1 .result) (w .0 (member-true _ (l .m) (b .ensures) (p .0 .taken))) (p .1 .ensures)))
-          (λ p. omega (arith, p .1, l .inv .1, more, middle-none G (now (a .line)) short symbols (a .d) good (a .start) (l .m) (λ z. member-false _ (l .m) (b .ensures) (p .0 .left) (w .1 z))))
-          (c .if1 .came),
+    let f = c .before .before in
+    let l = f .before .before .loop in
+    let e = start f in
+    let t = turn f in
+    let some = middle-some (G f) (now (e .args .line)) (e .pre .0 .isLine .short) (symbols f) (e .args .d) (proper _ _ _ (e .pre .0)) (e .args .start) (f .first .result) (c .before .symbol-ends .result) (f .before .before .before .prefix-ends .ensures _ .0 (middle f)) (c .before .symbol-ends .ensures) in (
+      omega (arith, l .inv .0, t .less),
+      λ m z. l .inv .1 m (t .rest m .0 z .0),
+      omega (arith, l .inv .2, less f, some, c .count .ensures),
     )
 
 returns : tie.Need-returns Inv-loop μ-loop
 returns c =
-    let turn = c .before in
-    let same : turn .loop .m ≡ suc (length (now (entry turn .args .line))) = omega (arith, turn .loop .inv .0, c .loop-test .left) in
-    rw same at (turn .loop .inv .1)
+    let l = c .before .loop in
+    let a = entry (c .before) .args in
+    omega (arith, rw (c .loop-test .left) at (l .inv .2), chosen-none (counts (now (a .g)) (a .at) (a .d) (now (a .line)) (a .start)) (suc (length (now (a .line)))))
 
 pub count-start-spec : {M : Type 1} → statement M
 count-start-spec =
@@ -80,13 +108,13 @@ count-start-spec =
     (tie.spec
     Inv-loop
     μ-loop
-    (λ c. search needs)
     prefix-ends-requires
     loop-holds
-    member-requires
+    (λ c κs. search needs) (λ c. search needs)
     symbol-ends-requires
     (λ c κs. search needs) (λ c. search needs)
     add-records
-    (λ c. search needs) (λ c. search needs)
+    (λ c. turn (c .before .before) .some)
+    (λ c. turn (c .before .before) .less)
     loop-again
     returns)

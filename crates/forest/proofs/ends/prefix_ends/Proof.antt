@@ -1,10 +1,11 @@
--- `forest::ends::prefix_ends` meets its contract. The loop's invariant: the ends are those of the first k symbols. The measure is what is left of them.
-use Prim.Native.Nat.{_-_, _≤_}
-use mathlib.Core.Path.{_≡_}
+-- `forest::ends::prefix_ends` meets its contract. The loop's invariant: the ends are those of the first k symbols; where there are none, there are none of more. The measure is what is left of the symbols.
+use Prim.Native.Nat.{ℕ, _+_, _-_, _≤_}
+use mathlib.Core.Path.{_≡_, subst}
 use native.Mathlib.Omega.{arith}
+use denote.Ref.{now}
 use borrow.Author.Needs.{needs}
 use Rattle.forest.specs.inner.Ends.{PrefixEnds}
-use Rattle.forest.proofs.EndsLaws.{prefix-none, prefix-more, prefix-inside}
+use Rattle.forest.proofs.EndsLaws.{prefix-none, prefix-more, prefix-inside, prefix-empty}
 use Rattle.forest.proofs.ends.prefix_ends.Statement.{statement}
 use Rattle.forest.proofs.ends.prefix_ends.Tie as tie
 
@@ -26,17 +27,26 @@ loop-holds c = let start = entry c in (search needs, prefix-none _ _ (start .arg
 
 step-ends-requires : tie.Need-step-ends-requires Inv-loop μ-loop
 step-ends-requires c κs =
-    let l = c .before in
+    let l = c .before .before in
     let p = entry (l .before) .pre in
-    (p .0, p .1, omega (arith, c .loop-test .taken, p .2), prefix-inside _ _ _ _ (l .loop .k) _ (l .loop .inv .1))
+    (p .0, p .1, omega (arith, c .before .loop-test .taken, p .2), prefix-inside _ _ _ _ (l .loop .k) _ (l .loop .inv .1))
 
 loop-again : tie.Need-loop-again Inv-loop μ-loop
 loop-again c =
-    let l = c .before .before in
-    (search needs, prefix-more _ _ _ _ (l .loop .k) _ _ (omega (arith, c .before .loop-test .taken, entry (l .before) .pre .2)) (l .loop .inv .1) (c .step-ends .ensures))
+    let l = c .before .before .before in
+    (search needs, prefix-more _ _ _ _ (l .loop .k) _ _ (omega (arith, c .before .before .loop-test .taken, entry (l .before) .pre .2)) (l .loop .inv .1) (c .step-ends .ensures))
 
 returns : tie.Need-returns Inv-loop μ-loop
 returns c =
+    let l = c .before .before in
+    let e = entry (l .before) in
+    let more = e .args .d - l .loop .k in
+    let all : l .loop .k + more ≡ e .args .d = omega (arith, l .loop .inv .0) in
+    subst (λ (k : ℕ). PrefixEnds (now (e .args .g)) (now (e .args .line)) (e .args .at) k (e .args .start) 0) all
+    (prefix-empty (now (e .args .g)) (now (e .args .line)) (e .args .at) (e .args .start) (l .loop .k) more (omega (arith, all, e .pre .2)) (rw (c .if1 .taken) at (l .loop .inv .1)))
+
+returns-2 : tie.Need-returns-2 Inv-loop μ-loop
+returns-2 c =
     let l = c .before in
     let same : l .loop .k ≡ entry (l .before) .args .d = omega (arith, l .loop .inv .0, c .loop-test .left) in
     rw same at (l .loop .inv .1)
@@ -49,7 +59,8 @@ prefix-ends-spec =
     μ-loop
     insert-requires
     loop-holds
+    returns
     step-ends-requires
     (λ c. search needs) (λ c. search needs)
     loop-again
-    returns)
+    returns-2)

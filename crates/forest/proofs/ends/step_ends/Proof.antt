@@ -1,41 +1,45 @@
--- `forest::ends::step_ends` meets its contract. The loop's invariant: the positions below m are done. The measure is what is left to the width.
-use Prim.Native.Nat.{_-_, _≤_}
-use mathlib.Core.Logic.{⊎-elim}
+-- `forest::ends::step_ends` meets its contract. The loop's invariant: where the set leads is gathered, or what is left of it leads there. What is left falls.
+use Prim.Native.Nat.{ℕ, _≤_}
 use native.Mathlib.Omega.{arith}
-use denote.Ref.{now}
 use borrow.Author.Needs.{needs}
-use Rattle.positions.proofs.Members.{member-true, member-false}
-use Rattle.forest.proofs.EndsLaws.{StepBelow, step-none, step-skip, step-take, step-all}
+use Rattle.positions.specs.Member.{Member}
+use Rattle.positions.proofs.Members.{none-member}
+use Rattle.positions.proofs.Taking.{Taken, taken}
+use Rattle.positions.proofs.Unions.{Gathered, gathered-none, gathered-first, gathered-all}
+use Rattle.forest.specs.inner.Ends.{SymbolDerives}
 use Rattle.forest.proofs.ends.step_ends.Statement.{statement}
 use Rattle.forest.proofs.ends.step_ends.Tie as tie
 
 abbrev Inv-loop : tie.InvT-loop
-Inv-loop g at d line words set width all₀ m₀ all m = (m ≤ width) × StepBelow g line at d set m all
+Inv-loop g at d line words set all₀ left₀ all left = (left ≤ set) × ((m : ℕ) → Member left m → Member set m) × Gathered (SymbolDerives g line at d) (Member set) (Member left) all
 
 abbrev μ-loop : tie.MeasureT-loop
-μ-loop g at d line words set width all₀ m₀ all m = width - m
+μ-loop g at d line words set all₀ left₀ all left = left
 
--- the function's entry, from the loop
-abbrev entry : tie.At-loop Inv-loop μ-loop → tie.Start Inv-loop μ-loop
-entry c = c .before .before .before .before
+-- the member that a turn takes
+turn : (c : tie.After-first Inv-loop μ-loop) → Taken (c .before .before .loop .left) (c .first .result)
+turn c = taken _ _ (c .first .ensures) (omega (arith, c .before .before .loop .inv .0)) (c .before .loop-test .taken)
 
 loop-holds : tie.Need-loop-holds Inv-loop μ-loop
-loop-holds c = (search needs, step-none _ _ _ _ _)
+loop-holds c = (omega arith, λ m z. z, gathered-none _ _ _ (λ m j h l. h) (λ m h. h))
+
+symbol-ends-requires : tie.Need-symbol-ends-requires Inv-loop μ-loop
+symbol-ends-requires c κs =
+    let l = c .before .before in
+    let e = l .before .before .before .before in
+    (e .pre .0, e .pre .1, e .pre .2, e .pre .3 _ (l .loop .inv .1 _ (turn c .here)))
 
 loop-again : tie.Need-loop-again Inv-loop μ-loop
 loop-again c =
-    let turn = c .before .before .before in
-    let l = turn .loop in
-    let a = entry turn .args in (
-      search needs,
-      ⊎-elim
-          (λ p. rw (p .2) (step-take (now (a .g)) (now (a .line)) (a .at) (a .d) (a .set) (l .m) (l .all) (p .1 .result) (member-true (a .set) (l .m) (c .before .member .ensures) (p .0 .taken)) (l .inv .1) (p .1 .ensures)))
-          (λ p. rw (p .1) (step-skip (now (a .g)) (now (a .line)) (a .at) (a .d) (a .set) (l .m) (l .all) (member-false (a .set) (l .m) (c .before .member .ensures) (p .0 .left)) (l .inv .1)))
-          (c .if1 .came),
+    let l = c .before .before .before .loop in
+    let t = turn (c .before) in (
+      omega (arith, l .inv .0, t .less),
+      λ m z. l .inv .1 m (t .rest m .0 z .0),
+      gathered-first _ _ _ _ _ _ t (l .inv .2) (c .symbol-ends .ensures),
     )
 
 returns : tie.Need-returns Inv-loop μ-loop
-returns c = let l = c .before in step-all _ _ _ _ _ (l .loop .m) _ (λ m z. omega (arith, entry l .pre .3 m z, c .loop-test .left)) (l .loop .inv .1)
+returns c = gathered-all _ _ _ _ (c .before .loop .inv .2) (λ m h. none-member m (rw (c .loop-test .left) at h))
 
 pub step-ends-spec : {M : Type 1} → statement M
 step-ends-spec =
@@ -43,8 +47,10 @@ step-ends-spec =
     (tie.spec
     Inv-loop
     μ-loop
-    (λ c. search needs)
     loop-holds
-    (λ c κs. search needs) (λ c κs. search needs) (λ c. search needs) (λ c. search needs)
+    (λ c κs. search needs) (λ c. search needs)
+    symbol-ends-requires
+    (λ c. turn (c .before) .some)
+    (λ c. turn (c .before) .less)
     loop-again
     returns)

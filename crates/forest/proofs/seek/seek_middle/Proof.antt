@@ -1,67 +1,90 @@
--- `forest::seek::seek_middle` meets its contract. The loop's invariant: there is no record with a middle below m.
-use Prim.Native.Nat.{ℕ, _-_, _≤_, _<_}
+-- `forest::seek::seek_middle` meets its contract. The loop's invariant: m is the first of what is left of the middles, and those that have left have no end.
+use Prim.Native.Nat.{ℕ, _≤_, _<_}
+use mathlib.Core.Path.{_≡_}
 use mathlib.Core.Logic.{⊎-elim}
-use native.Mathlib.Nat.{eq-or-lt-of-le}
 use native.Mathlib.Omega.{arith}
 use denote.Ref.{now}
 use borrow.Author.Needs.{needs}
 use Rattle.positions.specs.Member.{Member}
-use Rattle.positions.proofs.Members.{none-member, member-true, member-false}
+use Rattle.positions.specs.First.{First}
+use Rattle.positions.proofs.Members.{member?, none-member}
+use Rattle.positions.proofs.Taking.{Taken, taken-at}
+use Rattle.positions.proofs.Cuts.{from-member}
 use Rattle.forest.specs.inner.Ends.{SymbolDerives}
 use Rattle.forest.proofs.seek.seek_middle.Statement.{statement}
 use Rattle.forest.proofs.seek.seek_middle.Tie as tie
 
 abbrev Inv-loop : tie.InvT-loop
-Inv-loop g at d line words middles from width m₀ m =
-    (from ≤ m) × (m ≤ width) × ((x j : ℕ) → from ≤ x → x < m → Member middles x → SymbolDerives g line at d x j → ⊥)
+Inv-loop g at d line words middles from width left₀ m₀ left m =
+    First left m
+    × ((x : ℕ) → Member left x → Member middles x × (from ≤ x))
+    × ((x j : ℕ) → from ≤ x → Member middles x → (Member left x → ⊥) → SymbolDerives g line at d x j → ⊥)
 
 abbrev μ-loop : tie.MeasureT-loop
-μ-loop g at d line words middles from width m₀ m = width - m
+μ-loop g at d line words middles from width left₀ m₀ left m = left
 
-abbrev entry : tie.In-loop Inv-loop μ-loop → tie.Start Inv-loop μ-loop
-entry c = c .before .before .before .before .before
+abbrev entry : tie.At-loop Inv-loop μ-loop → tie.Start Inv-loop μ-loop
+entry c = c .before .before .before .before .before .before
 
-loop-holds : tie.Need-loop-holds Inv-loop μ-loop
-loop-holds c = (omega arith, search needs, λ m j a b. absurd (omega arith))
+-- the middle that a turn takes, and that no middle before it has an end
+turn : (c : tie.In-loop Inv-loop μ-loop) → Taken (c .before .loop .left) (c .before .loop .m)
+turn c = let e = entry (c .before) in taken-at _ _ (c .before .loop .inv .0) (omega (arith, c .loop-test .taken, e .pre .0 .isLine .short))
 
-symbol-ends-requires : tie.Need-symbol-ends-requires Inv-loop μ-loop
-symbol-ends-requires c κs = let e = entry (c .before .before) in (e .pre .0, e .pre .1, e .pre .2, omega (arith, c .before .before .loop-test .taken))
+none : (c : tie.At-loop Inv-loop μ-loop) → let a = entry c .args in (x j : ℕ) → a .from ≤ x → x < c .loop .m → Member (a .middles) x → SymbolDerives (now (a .g)) (now (a .line)) (a .at) (a .d) x j → ⊥
+none c x j a l z v = c .loop .inv .2 x j a z (c .loop .inv .0 .noneBelow x l) v
 
 returns : tie.Need-returns Inv-loop μ-loop
 returns c =
-    let s = c .before in
-    let i = s .before .before .before in
-    let l = i .before .loop in
     record {
-      after = l .inv .0;
-      none = l .inv .2;
+      after = omega arith;
+      none = λ m j a b z v. omega arith;
+      past = λ z. omega (arith, c .if1 .taken);
+      found = λ z. absurd (omega arith);
+      ends = λ z. absurd (omega arith);
+    }
+
+loop-holds : tie.Need-loop-holds Inv-loop μ-loop
+loop-holds c =
+    let e = c .before .before .before .before .before in
+    let m = from-member (e .args .middles) (e .args .from) (e .fits .middles .fits) in
+    (c .first .ensures, λ x. m x .0, λ x j a z n v. n (m x .1 (z, a)))
+
+symbol-ends-requires : tie.Need-symbol-ends-requires Inv-loop μ-loop
+symbol-ends-requires c κs = let e = entry (c .before) in (e .pre .0, e .pre .1, e .pre .2, omega (arith, c .loop-test .taken))
+
+returns-2 : tie.Need-returns-2 Inv-loop μ-loop
+returns-2 c =
+    let i = c .before .before in
+    let here = i .before .loop .inv .1 _ (turn i .here) in
+    record {
+      after = here .1;
+      none = none (i .before);
       past = λ z. absurd (c .if2 .taken z);
-      found = λ z. (omega (arith, i .loop-test .taken), member-true _ (l .m) (s .before .before .member .ensures) (s .before .if1 .taken));
-      ends = λ z. s .symbol-ends .ensures;
+      found = λ z. (omega (arith, i .loop-test .taken), here .0);
+      ends = λ z. c .before .symbol-ends .ensures;
     }
 
 loop-again : tie.Need-loop-again Inv-loop μ-loop
 loop-again c =
-    let i = c .before .before in
-    let e = entry i in
+    let i = c .before .before .before in
     let l = i .before .loop in
-    let b = c .before .member in
-    let here : (j : ℕ) → Member (e .args .middles) (l .m) → SymbolDerives (now (e .args .g)) (now (e .args .line)) (e .args .at) (e .args .d) (l .m) j → ⊥ =
-    λ j z v.
-    ⊎-elim (λ p. none-member j (rw (p .2 .left) at (p .1 .ensures j .1 v)))
-    (λ p. member-false _ (l .m) (b .ensures) (p .left) z)
-    (c .if1 .came) in (
-      omega (arith, l .inv .0),
-      search needs,
-      λ m j a h z v. ⊎-elim (λ q. here j (rw q at z) (rw q at v)) (λ q. l .inv .2 m j a q z v) (eq-or-lt-of-le {n = m} {m = l .m} (omega arith)),
+    let t = turn i in
+    let s = c .before in
+    let here : (x j : ℕ) → x ≡ l .m → SymbolDerives (now (entry (i .before) .args .g)) (now (entry (i .before) .args .line)) (entry (i .before) .args .at) (entry (i .before) .args .d) x j → ⊥ =
+    λ x j q v. none-member j (rw (s .if2 .left) at (s .before .symbol-ends .ensures j .1 (rw q at v))) in (
+      c .first2 .ensures,
+      λ x z. l .inv .1 x (t .rest x .0 z .0),
+      λ x j a z n v. ⊎-elim (λ h. n (t .rest x .1 (h, λ q. here x j q v))) (λ h. l .inv .2 x j a z h v) (member? (l .left) x),
     )
 
-returns-2 : tie.Need-returns-2 Inv-loop μ-loop
-returns-2 c =
+returns-3 : tie.Need-returns-3 Inv-loop μ-loop
+returns-3 c =
     let l = c .before .loop in
+    let e = entry (c .before) in
+    let low : l .m < e .args .from → ⊥ = λ k. omega (arith, l .inv .1 _ (l .inv .0 .found (omega (arith, k, e .pre .3, e .pre .0 .isLine .short))) .1) in
     record {
-      after = l .inv .0;
-      none = l .inv .2;
+      after = omega arith;
+      none = none (c .before);
       past = λ z. omega (arith, c .loop-test .left);
       found = λ z. absurd (omega arith);
       ends = λ z. absurd (omega arith);
@@ -74,10 +97,12 @@ seek-middle-spec =
     Inv-loop
     μ-loop
     (λ c. search needs)
-    loop-holds
-    (λ c κs. let e = entry c in omega (arith, c .loop-test .taken, e .pre .0 .isLine .short))
-    symbol-ends-requires
     returns
-    (λ c. search needs) (λ c. search needs)
+    (λ c. search needs) (λ c. search needs) (λ c κs. search needs) (λ c. search needs)
+    loop-holds
+    symbol-ends-requires
+    returns-2
+    (λ c. turn (c .before .before) .some) (λ c κs. search needs) (λ c. search needs)
+    (λ c. turn (c .before .before .before) .less)
     loop-again
-    returns-2)
+    returns-3)

@@ -3,7 +3,8 @@ use Prim.Native.Nat.{_-_}
 use mathlib.Core.Logic.{⊎-elim}
 use native.Mathlib.Omega.{arith}
 use borrow.Author.Needs.{needs}
-use Rattle.tree.proofs.DivisionLaws.{Taken, taken, ClassTurn, class-none, class-more, class-skip, class-all}
+use Rattle.positions.proofs.Taking.{Taken, taken}
+use Rattle.tree.proofs.DivisionLaws.{ClassTurn, class-none, class-more, class-skip, class-all}
 use Rattle.tree.proofs.division.class_starts.Statement.{statement}
 use Rattle.tree.proofs.division.class_starts.Tie as tie
 
@@ -15,7 +16,7 @@ abbrev μ-loop : tie.MeasureT-loop
 
 -- the end that a turn takes
 turn : (c : tie.After-first Inv-loop μ-loop) → Taken (c .before .before .loop .left) (c .first .result)
-turn c = taken _ _ (omega (arith, c .before .before .loop .inv .low)) (c .before .loop-test .taken) (c .first .ensures)
+turn c = taken _ _ (c .first .ensures) (omega (arith, c .before .before .loop .inv .low)) (c .before .loop-test .taken)
 
 loop-holds : tie.Need-loop-holds Inv-loop μ-loop
 loop-holds c = class-none _ _ _ _
@@ -33,14 +34,12 @@ loop-again : tie.Need-loop-again Inv-loop μ-loop
 loop-again c =
     let l = c .before .before .before .loop in
     let t = turn (c .before) in
-    rw (t .power) (
     ⊎-elim
     (λ w. rw (w .4) (class-more _ _ _ _ _ _ _ t (l .inv) _ (w .0 .taken) (w .2 .taken) (w .3 .ensures)))
     (⊎-elim
     (λ w. rw (w .3) (class-skip _ _ _ _ _ _ _ t (l .inv) (λ k q. w .2 .left q)))
     (λ w. rw (w .1) (class-skip _ _ _ _ _ _ _ t (l .inv) (λ k q. omega (arith, w .0 .left)))))
     (c .if1 .came)
-    )
 
 returns : tie.Need-returns Inv-loop μ-loop
 returns c = class-all _ _ _ _ _ (rw (c .loop-test .left) at (c .before .loop .inv))
@@ -57,8 +56,7 @@ class-starts-spec =
     cast-if2
     (λ c. search needs)
     (λ c κs. omega (arith, turn (c .before .before .before) .small))
-    (λ c. turn (c .before) .small)
-    (λ c. let t = turn (c .before) in omega (arith, t .power, t .covered))
-    (λ c. let t = turn (c .before) in omega (arith, t .power, t .less))
+    (λ c. turn (c .before) .some)
+    (λ c. turn (c .before) .less)
     loop-again
     returns)

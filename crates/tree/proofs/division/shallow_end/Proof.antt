@@ -9,7 +9,7 @@ use denote.Ref.{now}
 use borrow.Author.Needs.{needs}
 use Rattle.positions.specs.Member.{Member}
 use Rattle.positions.proofs.Members.{member?, none-member}
-use Rattle.tree.proofs.DivisionLaws.{Taken, taken}
+use Rattle.positions.proofs.Taking.{Taken, taken}
 use Rattle.tree.proofs.division.shallow_end.Statement.{statement}
 use Rattle.tree.proofs.division.shallow_end.Tie as tie
 
@@ -26,7 +26,7 @@ module _ (c : tie.After-first Inv-loop μ-loop) where
   asked = c .before .before .before .before
 
   turn : Taken (c .before .before .loop .left) (c .first .result)
-  turn = taken _ _ (omega (arith, c .before .before .loop .inv .0)) (c .before .loop-test .taken) (c .first .ensures)
+  turn = taken _ _ (c .first .ensures) (omega (arith, c .before .before .loop .inv .0)) (c .before .loop-test .taken)
 
   room : asked .args .base + c .first .result < length (now (asked .args .depths))
   room = asked .pre _ (c .before .before .loop .inv .1 _ (turn .here))
@@ -48,9 +48,8 @@ loop-again c =
     let f = c .before .before in
     let l = f .before .before .loop in
     let base = asked f .args .base in
-    let t = turn f in
-    rw (t .power) (
-      omega (arith, l .inv .0),
+    let t = turn f in (
+      omega (arith, l .inv .0, t .less),
       λ e m. l .inv .1 e (t .rest e .0 m .0),
       λ e m n p. ⊎-elim
           (λ k. n (t .rest e .1 (k, λ (q : e ≡ f .first .result). lt-irrefl _ (lt-of-le-of-lt (rw q at p) (c .if1 .left)))))
@@ -73,8 +72,7 @@ shallow-end-spec =
     (λ c κs. search needs) (λ c. search needs) (λ c. omega (arith, room c)) (λ c. omega (arith, room c))
     (λ c. room (c .before))
     returns
-    (λ c. turn (c .before .before) .small)
-    (λ c. let t = turn (c .before .before) in omega (arith, t .power, t .covered))
-    (λ c. let t = turn (c .before .before) in omega (arith, t .power, t .less))
+    (λ c. turn (c .before .before) .some)
+    (λ c. turn (c .before .before) .less)
     loop-again
     returns-2)
