@@ -1,10 +1,10 @@
-//! Figures: the library beside a plain Rust version of its method and beside the reference, in one run.
+//! Figures: the library beside two plain Rust versions of its method and beside the reference, in one run.
 //!
 //! bench [RUNS]
 //! bench --write FOLDER
 //!
 //! Prints markdown tables: microseconds of CPU time for a line (medians of RUNS interleaved runs), ratios, rounds and facts; growth
-//! with the line's length; tree and forest questions. All three must give the same chart and depths before they are timed.
+//! with the line's length; tree and forest questions. All must give the same chart and depths before they are timed.
 //! With --write it times nothing, and writes the workloads and the probes as text for other recognisers.
 
 mod plain;
@@ -48,21 +48,24 @@ fn reference_of(grammar: &[u8], line: &[u8]) -> Reference {
     Reference::new(read(grammar).expect("a workload is accepted"), line)
 }
 
-/// All three agree on the line; answers rounds and facts, and the reference, which has the depths.
+/// All agree on the line; answers rounds and facts, and the reference, which has the depths.
 fn agree(workload: &Workload, line: &[u8]) -> (usize, usize, Reference) {
-    let (mut library, mut plain) = (Memory::new(), Memory::new());
+    let mut library = Memory::new();
     let answer = library.chart(&workload.grammar, line);
-    assert_eq!(
-        answer,
-        plain::chart(&workload.grammar, line, &mut plain.words, &mut plain.depths),
-        "{}",
-        workload.name
-    );
-    assert!(
-        library.words == plain.words && library.depths == plain.depths,
-        "{}",
-        workload.name
-    );
+    for plain in [plain::ac, plain::c] {
+        let mut beside = Memory::new();
+        let found = plain(
+            &workload.grammar,
+            line,
+            &mut beside.words,
+            &mut beside.depths,
+        );
+        assert!(
+            answer == found && library.words == beside.words && library.depths == beside.depths,
+            "{}",
+            workload.name
+        );
+    }
     let reference = reference_of(&workload.grammar, line);
     assert_eq!(
         answer,
@@ -94,20 +97,22 @@ fn chart_figure(workload: &Workload, runs: usize) -> Figure {
     let rounds = answers.iter().map(|answer| answer.0).max().unwrap_or(0);
     let facts = answers.iter().map(|answer| answer.1).sum::<usize>() / answers.len();
     let (grammar, lines) = (&workload.grammar, &workload.lines);
-    let (mut first, mut second) = (Memory::new(), Memory::new());
+    let (mut first, mut second, mut third) = (Memory::new(), Memory::new(), Memory::new());
     let mut library = || {
         for line in lines {
             unknown(first.chart(unknown(grammar), line));
         }
     };
-    let mut plain = || {
+    let mut plain_ac = || {
         for line in lines {
-            unknown(plain::chart(
-                unknown(grammar),
-                line,
-                &mut second.words,
-                &mut second.depths,
-            ));
+            let (words, depths) = (&mut second.words, &mut second.depths);
+            unknown(plain::ac(unknown(grammar), line, words, depths));
+        }
+    };
+    let mut plain_c = || {
+        for line in lines {
+            let (words, depths) = (&mut third.words, &mut third.depths);
+            unknown(plain::c(unknown(grammar), line, words, depths));
         }
     };
     let mut reference = || {
@@ -115,10 +120,13 @@ fn chart_figure(workload: &Workload, runs: usize) -> Figure {
             unknown(reference_of(unknown(grammar), line).facts);
         }
     };
-    let times = medians(runs, &mut [&mut library, &mut plain, &mut reference]);
+    let times = medians(
+        runs,
+        &mut [&mut library, &mut plain_ac, &mut plain_c, &mut reference],
+    );
     let times: Vec<f64> = times.iter().map(|time| time / lines.len() as f64).collect();
     println!(
-        "| {} | {} | {rounds} | {facts} | {} | {} | {:.2} | {} | {:.2} |",
+        "| {} | {} | {rounds} | {facts} | {} | {} | {:.2} | {} | {:.2} | {} | {:.2} |",
         workload.name,
         workload.tokens,
         short(times[0]),
@@ -126,6 +134,8 @@ fn chart_figure(workload: &Workload, runs: usize) -> Figure {
         times[0] / times[1],
         short(times[2]),
         times[0] / times[2],
+        short(times[3]),
+        times[0] / times[3],
     );
     Figure {
         name: workload.name,
@@ -145,7 +155,9 @@ fn short(time: f64) -> String {
 /// The exponent of the growth from the shortest to the longest line of a kind.
 fn print_growth(figures: &[Figure]) {
     println!("\n## Growth with the line: exponent from the shortest line to the longest\n");
-    println!("| workload | n | library | plain ac | reference |\n|---|---|---|---|---|");
+    println!(
+        "| workload | n | library | plain ac | plain c | reference |\n|---|---|---|---|---|---|"
+    );
     for first in figures.iter().filter(|figure| figure.tokens <= 16) {
         let last = match figures.iter().rfind(|figure| figure.name == first.name) {
             Some(last) => last,
@@ -301,8 +313,8 @@ fn main() {
         Some(word) => word.parse().expect("the number of runs is a number"),
     };
     println!("CPU microseconds for a line; medians of {runs} interleaved runs.\n\n## Chart\n");
-    println!("| workload | n | rounds | facts | library | plain ac | library / ac | reference | library / reference |");
-    println!("|---|---|---|---|---|---|---|---|---|");
+    println!("| workload | n | rounds | facts | library | plain ac | library / ac | plain c | library / c | reference | library / reference |");
+    println!("|---|---|---|---|---|---|---|---|---|---|---|");
     let workloads = workloads::all();
     let figures: Vec<Figure> = workloads
         .iter()

@@ -1,5 +1,6 @@
-//! The library's method in plain Rust (the prototype `ac`): rounds over the rules, the join visits positions from the start on,
-//! the walk stops at the empty set, and a rule is left out unless a category on its right side gained an end in the round before.
+//! The library's method in plain Rust, twice: rounds over the rules, and a rule is left out unless a category on its right side gained an
+//! end in the round before. In `ac` the join visits all positions from the start on and the walk stops at the empty set; in `c` the join
+//! goes from set bit to set bit.
 
 const MOST_ROWS: usize = 32 * 64;
 
@@ -22,10 +23,22 @@ fn sections(grammar: &[u8]) -> Sections {
     }
 }
 
+/// The members of a set, ascending.
+pub fn bits(mut set: u64) -> impl Iterator<Item = usize> {
+    std::iter::from_fn(move || {
+        if set == 0 {
+            return None;
+        }
+        let first = set.trailing_zeros() as usize;
+        set &= set - 1;
+        Some(first)
+    })
+}
+
 /// The loops are the prototype's: an index that runs over all positions from the start on.
 #[inline(always)]
 #[allow(clippy::needless_range_loop)]
-fn reach(symbols: &[u8], start: usize, line: &[u8], words: &[u64]) -> u64 {
+fn reach_by_positions(symbols: &[u8], start: usize, line: &[u8], words: &[u64]) -> u64 {
     let tokens = line.len();
     let mut ends = 1u64 << start;
     for &symbol in symbols {
@@ -48,6 +61,24 @@ fn reach(symbols: &[u8], start: usize, line: &[u8], words: &[u64]) -> u64 {
         ends = next;
         if ends == 0 {
             break;
+        }
+    }
+    ends
+}
+
+#[inline(always)]
+fn reach_by_bits(symbols: &[u8], start: usize, line: &[u8], words: &[u64]) -> u64 {
+    let positions = line.len() + 1;
+    let mut ends = 1u64 << start;
+    for &symbol in symbols {
+        if symbol < 128 {
+            ends = bits(ends)
+                .filter(|&middle| line.get(middle) == Some(&symbol))
+                .fold(0, |next, middle| next | 2 << middle);
+        } else {
+            let first = (symbol as usize - 128) * positions;
+            let rows = &words[first..first + positions];
+            ends = bits(ends).fold(0, |next, middle| next | rows[middle]);
         }
     }
     ends
@@ -88,9 +119,15 @@ fn commit(
     gained
 }
 
-/// Fills the chart and the depths; answers rounds and facts.
-#[inline(never)]
-pub fn chart(grammar: &[u8], line: &[u8], words: &mut [u64], depths: &mut [u16]) -> (usize, usize) {
+/// Fills the chart and the depths; answers rounds and facts. `reach` answers the ends of some symbols from a start.
+#[inline(always)]
+fn fill(
+    grammar: &[u8],
+    line: &[u8],
+    words: &mut [u64],
+    depths: &mut [u16],
+    reach: impl Fn(&[u8], usize, &[u8], &[u64]) -> u64,
+) -> (usize, usize) {
     let read = sections(grammar);
     let positions = line.len() + 1;
     let rows = read.categories * positions;
@@ -125,4 +162,14 @@ pub fn chart(grammar: &[u8], line: &[u8], words: &mut [u64], depths: &mut [u16])
         }
         rounds += 1;
     }
+}
+
+#[inline(never)]
+pub fn ac(grammar: &[u8], line: &[u8], words: &mut [u64], depths: &mut [u16]) -> (usize, usize) {
+    fill(grammar, line, words, depths, reach_by_positions)
+}
+
+#[inline(never)]
+pub fn c(grammar: &[u8], line: &[u8], words: &mut [u64], depths: &mut [u16]) -> (usize, usize) {
+    fill(grammar, line, words, depths, reach_by_bits)
 }

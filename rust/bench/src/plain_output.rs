@@ -1,6 +1,7 @@
 //! Tree and forest in plain Rust over a filled chart: the divisions that serve as sets from the right, and the records from set bit to
 //! set bit.
 
+use crate::plain::bits;
 use berylskip::Branch;
 
 pub struct Filled<'a> {
@@ -176,16 +177,4 @@ impl Filled<'_> {
         }
         count
     }
-}
-
-/// The members of a set, ascending.
-fn bits(mut set: u64) -> impl Iterator<Item = usize> {
-    std::iter::from_fn(move || {
-        if set == 0 {
-            return None;
-        }
-        let first = set.trailing_zeros() as usize;
-        set &= set - 1;
-        Some(first)
-    })
 }
