@@ -25,6 +25,7 @@ use Rattle.checks.specs.Line.{tokensFrom, lineCheck}
 use Rattle.checks.specs.Question.{startCheck}
 use Rattle.grammar.specs.declared.reading.Sections.{Sections}
 use Rattle.grammar.specs.declared.reading.Reading.the-variants.{Accepted}
+use Rattle.grammar.specs.Repeats.{sameSymbols, sameRule, isRepeated}
 use Rattle.grammar.specs.Reading.{eachFrom, ruleFrom, rulesFrom, flagsSection, rulesSection, sectionsOf, readOf}
 use Rattle.grammar.specs.Value.{standing, rulesAt, grammarOf}
 use Rattle.grammar.proofs.Encoded.{accepted-proper}
@@ -44,7 +45,7 @@ abbrev jobSections : Sections
 jobSections = record { classes = 3; categories = 1; rules = 2; flags = 5; first = 7; end = 15 }
 
 job-read : readOf jobBytes ≡ Accepted jobSections
-unfolding jobBytes readOf sectionsOf flagsSection rulesSection rulesFrom ruleFrom eachFrom
+unfolding jobBytes readOf sectionsOf flagsSection rulesSection rulesFrom ruleFrom eachFrom standing isRepeated sameRule sameSymbols some
 job-read = refl
 
 job-grammar : grammarOf jobBytes jobSections ≡ jobGrammar

@@ -36,9 +36,9 @@ pub record ReadAs (G : Grammar) (g : List ℕ) (s : Sections) : Type 0 where
 
 pub encodes-read : {G : Grammar} {g : List ℕ} → Encodes G g → (s : Sections) × ReadAs G g s
 encodes-read {G} {g} e =
-    let a = accepted-iff g .1 (G, e .within, e .encoding) in
+    let a = accepted-iff g .1 (G, e .within, e .distinct, e .encoding) in
     let s = a .0 in
-    let same = value-read g s G (a .1) (e .encoding) (e .within) in
+    let same = value-read g s G (a .1) (e .encoding) (e .within) (e .distinct) in
     let whole = accepted g s (a .1) .0 in (
       s,
       record {
@@ -50,7 +50,7 @@ encodes-read {G} {g} e =
     )
 
 pub read-encodes : {g : List ℕ} {s : Sections} → readOf g ≡ Accepted s → Encodes (grammarOf g s) g
-read-encodes {g} {s} e = let a = accepted-encodes g s e in record { within = a .0; encoding = a .1 }
+read-encodes {g} {s} e = let a = accepted-encodes g s e in record { within = a .0; distinct = a .1; encoding = a .2 }
 
 -- the grammar that is given is the one that is encoded
 pub given-is : {G : Grammar} {g : List ℕ} → Encodes G g → grammarGiven g ≡ G

@@ -1,6 +1,7 @@
 -- How a question ends: turned down before the filling, turned down after it, or with an answer.
-use Prim.Native.Nat.{ℕ, _≤_}
+use Prim.Native.Nat.{ℕ}
 use mathlib.Core.Path.{_≡_, refl, sym, ap, _∙_}
+use mathlib.Core.Logic.{inl, inr}
 use mathlib.Core.List.{List}
 use native.Mathlib.Omega.{arith}
 use mathlib.Core.Bool.{Bool, true, false}
@@ -30,7 +31,7 @@ use Rattle.forest.specs.Told.{forestTold}
 use Rattle.tree.specs.Outcome as tree-outcome
 use Rattle.forest.specs.Outcome as forest-outcome
 use Rattle.demands.specs.Question.{Input, Query, chart, ends, marks, tree, forest, rowBefore, Result, Allowed}
-use Rattle.demands.specs.TurnedDown.{AllRight, TurnedDown, treeOfNoFact, marksTooSmall, forestTooSmall, treeTooSmall}
+use Rattle.demands.specs.TurnedDown.{LateNumber, AllRight, TurnedDown, treeOfNoFact, marksTooSmall, forestTooSmall, treeTooSmall}
 use Rattle.demands.proofs.AllRight.{early-passes, passes-right}
 use Rattle.demands.proofs.Refusals.{first}
 
@@ -41,7 +42,7 @@ Worked x r = WorkFilled (grammarGiven (x .grammar)) (x .line) (x .words) (x .dep
 pub data Ending (x : Input) (q : Query) (r : Result q) : Type 0 where
   before : (refusal : Refusal) → first x q ≡ check.Refused refusal → r .told ≡ refused (rowOf refusal) →
       r .words ≡ x .words → r .depths ≡ x .depths → r .row ≡ rowBefore q → Ending x q r
-  after : (row : Row) → first x q ≡ check.Passed → r .told ≡ refused row → TurnedDown x q row → 10 ≤ row .number →
+  after : (row : Row) → first x q ≡ check.Passed → r .told ≡ refused row → TurnedDown x q row → LateNumber (row .number) →
       Worked x r → r .row ≡ rowBefore q → Ending x q r
   answers : (values : List ℕ) → first x q ≡ check.Passed → r .told ≡ answered values → Worked x r → Ending x q r
 
@@ -66,12 +67,12 @@ ending x (ends A i) r (answer, tells, ends-outcome.found e t m c f y) = answers 
 ending x (marks row) r (answer, tells, marks-outcome.turnedDown {refusal = refusal} e a w d m) = before refusal e (sym tells ∙ ap marksTold a) w d m
 ending x (marks row) r (answer, tells, marks-outcome.noRoom e l a y m) =
     let f = fault-found (ltb (length row) (length (x .line))) l in
-    after _ e (sym tells ∙ ap marksTold a ∙ ap (λ (z : Refusal). refused (rowOf z)) (sym (f .1))) (marksTooSmall (all-right x (marks row) e) (ltb-true _ _ (f .0))) (omega arith) y m
+    after _ e (sym tells ∙ ap marksTold a ∙ ap (λ (z : Refusal). refused (rowOf z)) (sym (f .1))) (marksTooSmall (all-right x (marks row) e) (ltb-true _ _ (f .0))) (inr refl) y m
 ending x (marks row) r (answer, tells, marks-outcome.answered e t y m) = answers _ (reported-passed (marksChecks (x .grammar) (x .line) (x .words) (x .depths) row) e .0) (sym tells ∙ t) y
 ending x (tree A i j row) r (answer, tells, tree-outcome.turnedDown {refusal = refusal} e a w d o) = before refusal e (sym tells ∙ ap treeTold a) w d o
-ending x (tree A i j row) r (answer, tells, tree-outcome.noFact e n a y o) = after _ e (sym tells ∙ ap treeTold a) (treeOfNoFact (all-right x (tree A i j row) e) n) (omega arith) y o
-ending x (tree A i j row) r (answer, tells, tree-outcome.noRoom t e c l a y o) = after _ e (sym tells ∙ ap treeTold a) (treeTooSmall (all-right x (tree A i j row) e) t c l) (omega arith) y o
+ending x (tree A i j row) r (answer, tells, tree-outcome.noFact e n a y o) = after _ e (sym tells ∙ ap treeTold a) (treeOfNoFact (all-right x (tree A i j row) e) n) (inl refl) y o
+ending x (tree A i j row) r (answer, tells, tree-outcome.noRoom t e c l a y o) = after _ e (sym tells ∙ ap treeTold a) (treeTooSmall (all-right x (tree A i j row) e) t c l) (inr refl) y o
 ending x (tree A i j row) r (answer, tells, tree-outcome.shows t e c l a y o) = answers _ e (sym tells ∙ a) y
 ending x (forest rows) r (answer, tells, forest-outcome.turnedDown {refusal = refusal} e a w d o) = before refusal e (sym tells ∙ ap forestTold a) w d o
-ending x (forest rows) r (answer, tells, forest-outcome.noRoom e i l a y o) = after _ e (sym tells ∙ ap forestTold a) (forestTooSmall (all-right x (forest rows) e) i l) (omega arith) y o
+ending x (forest rows) r (answer, tells, forest-outcome.noRoom e i l a y o) = after _ e (sym tells ∙ ap forestTold a) (forestTooSmall (all-right x (forest rows) e) i l) (inr refl) y o
 ending x (forest rows) r (answer, tells, forest-outcome.answered e i l a y o) = answers _ e (sym tells ∙ a) y

@@ -1,6 +1,7 @@
 -- One result for every input, refusals as the table says, and what memory then holds.
-use Prim.Native.Nat.{ℕ, _≤_}
+use Prim.Native.Nat.{ℕ}
 use mathlib.Core.Path.{_≡_, refl, sym, ap, _∙_}
+use mathlib.Core.Logic.{inl, inr}
 use mathlib.Core.List.{List}
 use native.Mathlib.Omega.{arith}
 use Rattle.refusals.specs.declared.Row.{Row}
@@ -20,7 +21,7 @@ use Rattle.tree.proofs.Unique.{tree-outcome-unique}
 use Rattle.forest.specs.Told.{forestTold}
 use Rattle.forest.proofs.Unique.{forest-outcome-unique}
 use Rattle.demands.specs.Question.{Input, Query, chart, ends, marks, tree, forest, rowBefore, Result, Allowed}
-use Rattle.demands.specs.TurnedDown.{AllRight, TurnedDown, grammarWrong, lineTooLong, tokenNoClass, numberWrong, wordsTooFew, depthsTooFew, treeOfNoFact, marksTooSmall, forestTooSmall, treeTooSmall}
+use Rattle.demands.specs.TurnedDown.{EarlyNumber, LateNumber, AllRight, TurnedDown, grammarWrong, lineTooLong, tokenNoClass, numberWrong, wordsTooFew, depthsTooFew, treeOfNoFact, marksTooSmall, forestTooSmall, treeTooSmall}
 use Rattle.demands.specs.Demands.{Fills, answers, late}
 use Rattle.demands.proofs.AllRight.{given-is}
 use Rattle.demands.proofs.Refusals.{first, TurnedEarly, grammar-turned, line-turned, number-turned, words-turned, depths-turned, right-passed, early-listed}
@@ -56,15 +57,21 @@ result-unique x (forest rows) a b (p, t, o) (p′, t′, o′) =
     let e = forest-outcome-unique (x .grammar) (x .line) (x .words) (x .depths) rows o o′ in
     same-result (sym t ∙ ap forestTold (e .0) ∙ t′) (e .1) (e .2) (e .3)
 
+not-both-numbers : {number : ℕ} → EarlyNumber number → LateNumber number → ⊥
+not-both-numbers (inl a) (inl b) = omega arith
+not-both-numbers (inl a) (inr b) = omega arith
+not-both-numbers (inr a) (inl b) = omega arith
+not-both-numbers (inr a) (inr b) = omega arith
+
 module _ (x : Input) (q : Query) (r : Result q) where
   pub told-listed : Ending x q r → (row : Row) → r .told ≡ refused row → TurnedDown x q row
   told-listed (before refusal e t w d m) row h = rw (one-row h t) (early-listed x q refusal e .0)
   told-listed (after other e t down n y m) row h = rw (one-row h t) down
   told-listed (ends-by.answers values e t y) row h = absurd (not-refused t h)
 
-  pub work-unchanged : Ending x q r → (row : Row) → r .told ≡ refused row → row .number ≤ 9 → (r .words ≡ x .words) × (r .depths ≡ x .depths)
+  pub work-unchanged : Ending x q r → (row : Row) → r .told ≡ refused row → EarlyNumber (row .number) → (r .words ≡ x .words) × (r .depths ≡ x .depths)
   work-unchanged (before refusal e t w d m) row h n = (w, d)
-  work-unchanged (after other e t down k y m) row h n = absurd (omega (arith, ap (λ (z : Row). z .number) (one-row h t)))
+  work-unchanged (after other e t down k y m) row h n = absurd (not-both-numbers (rw (one-row h t) at n) k)
   work-unchanged (ends-by.answers values e t y) row h n = absurd (not-refused t h)
 
   pub row-unchanged : Ending x q r → (row : Row) → r .told ≡ refused row → r .row ≡ rowBefore q
@@ -89,12 +96,12 @@ module _ (x : Input) (q : Query) (r : Result q) where
   right-fills p (after other e t down k y m) = rw t (late k)
   right-fills p (ends-by.answers values e t y) = rw t answers
 
-  -- a refusal of up to 9 fills nothing
-  low-fills : {row : Row} → row .number ≤ 9 → Fills (refused row) → ⊥
-  low-fills n (late k) = omega arith
+  -- a refusal before the filling fills nothing
+  early-fills : {row : Row} → EarlyNumber (row .number) → Fills (refused row) → ⊥
+  early-fills n (late k) = not-both-numbers n k
 
   pub fills-passed : Ending x q r → Fills (r .told) → first x q ≡ check.Passed
-  fills-passed (before refusal e t w d m) f = absurd (low-fills (early-listed x q refusal e .1) (rw t at f))
+  fills-passed (before refusal e t w d m) f = absurd (early-fills (early-listed x q refusal e .1) (rw t at f))
   fills-passed (after other e t down k y m) f = e
   fills-passed (ends-by.answers values e t y) f = e
 

@@ -1,6 +1,7 @@
 -- A question is turned down exactly as the document's table says.
 use Prim.Native.Nat.{ℕ, _≤_, _<_}
 use mathlib.Core.Path.{_≡_, refl}
+use mathlib.Core.Logic.{inl, inr}
 use mathlib.Core.List.{List}
 use native.Mathlib.Nat.{lt-of-not-le}
 use native.Mathlib.Decide.{decLe}
@@ -25,14 +26,14 @@ use Rattle.grammar.specs.declared.reading.Reading.the-variants.{Accepted, Refus
 use Rattle.grammar.specs.Reading.{readOf}
 use Rattle.grammar.specs.Value.{grammarOf}
 use Rattle.grammar.specs.Told.{readingTold}
-use Rattle.grammar.specs.Beginning.{NextByte, countBetween, flagByte, leftOf, symbolOf, noMore, numberOf, Refusing, endsEarly, notRight}
+use Rattle.grammar.specs.Beginning.{NextByte, countBetween, flagByte, leftOf, symbolOf, noMore, numberOf, Refusing, endsEarly, notRight, ruleRepeated}
 use Rattle.grammar.proofs.Refusals.{refused-iff}
 use Rattle.grammar.proofs.Accepted.{accepted}
 use Rattle.grammar.proofs.Encoded.{class-count, category-count}
 use Rattle.chart.specs.Checks.{checksOf}
 use Rattle.chart.proofs.CheckLaws.{early-passed}
 use Rattle.demands.specs.Question.{Input, Query, numbers}
-use Rattle.demands.specs.TurnedDown.{by, Encodes, FirstWrong, AllRight, TurnedDown, grammarWrong, lineTooLong, tokenNoClass, numberWrong, wordsTooFew, depthsTooFew}
+use Rattle.demands.specs.TurnedDown.{by, EarlyNumber, Encodes, FirstWrong, AllRight, TurnedDown, grammarWrong, lineTooLong, tokenNoClass, numberWrong, wordsTooFew, depthsTooFew}
 use Rattle.demands.proofs.Right.{askedOf, AllNumbers, numbers-wrong, numbers-right, right-numbers, wrong-numbers}
 use Rattle.demands.proofs.AllRight.{ReadAs, encodes-read, read-encodes, right-passes, work-right}
 
@@ -40,10 +41,11 @@ use Rattle.demands.proofs.AllRight.{ReadAs, encodes-read, read-encodes,
 abbrev pub first : Input → Query → Check
 first x q = early (checksOf (x .grammar) (x .line) (askedOf q) (x .words) (x .depths) check.Passed check.Passed)
 
--- refusals of grammar bytes have numbers up to 5
-grammar-number : {g : List ℕ} {row : Row} → Refusing g row → row .number ≤ 9
-grammar-number (endsEarly b n) = omega arith
-grammar-number (notRight {next = next} b y w rest) = go next
+-- refusals of grammar bytes come before the filling
+grammar-number : {g : List ℕ} {row : Row} → Refusing g row → EarlyNumber (row .number)
+grammar-number (endsEarly b n) = inl (omega arith)
+grammar-number (ruleRepeated u w same rest) = inr refl
+grammar-number (notRight {next = next} b y w rest) = inl (go next)
   where
     go : (next : NextByte) → numberOf next ≤ 9
     go (countBetween low high) = omega arith
@@ -107,10 +109,10 @@ module _ (x : Input) (q : Query) where
   pub right-passed : {G : Grammar} → AllRight G x q → first x q ≡ check.Passed
   right-passed a = early-passed (x .words) (x .depths) check.Passed check.Passed (right-passes a .2)
 
-  -- what is refused before the filling is in the table, and has a number up to 9
+  -- what is refused before the filling is in the table, with such a number
   module _ (refusal : Refusal) (e : first x q ≡ check.Refused refusal) where
     abbrev Listed : Refusal → Type 0
-    Listed r = TurnedDown x q (rowOf r) × (rowOf r .number ≤ 9)
+    Listed r = TurnedDown x q (rowOf r) × EarlyNumber (rowOf r .number)
 
     -- one refusal is found
     same : {other : Refusal} → first x q ≡ check.Refused other → Listed other → Listed refusal
@@ -131,23 +133,23 @@ module _ (x : Input) (q : Query) where
         memory-listed asked (no w) d =
             let small = lt-of-not-le w in
             same {other = ChartTooSmall} (rw (read, line, asked, too-small _ _ ChartTooSmall small))
-            (wordsTooFew (read-encodes read) (rw classes l) (rw categories (right-numbers _ _ q asked)) (rw categories small), omega arith)
+            (wordsTooFew (read-encodes read) (rw classes l) (rw categories (right-numbers _ _ q asked)) (rw categories small), inl (omega arith))
         memory-listed asked (yes w) (no d) =
             let small = lt-of-not-le d in
             same {other = DepthsTooSmall} (rw (read, line, asked, large-enough _ _ ChartTooSmall w, too-small _ _ DepthsTooSmall small))
-            (depthsTooFew (read-encodes read) (rw classes l) (rw categories (right-numbers _ _ q asked)) (rw categories w) (rw categories small), omega arith)
+            (depthsTooFew (read-encodes read) (rw classes l) (rw categories (right-numbers _ _ q asked)) (rw categories w) (rw categories small), inl (omega arith))
         memory-listed asked (yes w) (yes d) =
             absurd (not-both e (early-passed {asked = askedOf q} (x .words) (x .depths) check.Passed check.Passed (record { read = read; rest = rw (line, asked, work-right _ _ _ _ w d) })))
 
         numbers-listed : (c : Check) → askedCheck (s .categories) (length (x .line)) (askedOf q) ≡ c → Listed refusal
         numbers-listed (check.Refused other) is =
             let f = wrong-numbers (s .categories) (length (x .line)) q other is in
-            same {other = other} (rw (read, line, is)) (rw (f .2) (numberWrong {q = q} {place = f .0} (read-encodes read) (rw classes l) (rw categories (f .1)), omega arith))
+            same {other = other} (rw (read, line, is)) (rw (f .2) (numberWrong {q = q} {place = f .0} (read-encodes read) (rw classes l) (rw categories (f .1)), inl (omega arith)))
         numbers-listed check.Passed is = memory-listed is (decLe _ _) (decLe _ _)
 
-      told-listed : (told : Told) → LineOutcome (s .classes) (x .line) told → {row : Row} → told ≡ refused row → TurnedDown x q row × (row .number ≤ 9)
-      told-listed _ (tooLong l) {row} h = let z : row ≡ by 6 63 = cc in rw z (lineTooLong (read-encodes read) l, omega arith)
-      told-listed _ (badToken {t = t} short f) {row} h = let z : row ≡ by 7 t = cc in rw z (tokenNoClass {q = q} {t = t} (read-encodes read) short (rw classes f), omega arith)
+      told-listed : (told : Told) → LineOutcome (s .classes) (x .line) told → {row : Row} → told ≡ refused row → TurnedDown x q row × EarlyNumber (row .number)
+      told-listed _ (tooLong l) {row} h = let z : row ≡ by 6 63 = cc in rw z (lineTooLong (read-encodes read) l, inl (omega arith))
+      told-listed _ (badToken {t = t} short f) {row} h = let z : row ≡ by 7 t = cc in rw z (tokenNoClass {q = q} {t = t} (read-encodes read) short (rw classes f), inl (omega arith))
       told-listed _ (isLine l) h = absurd (let z : _≡_ {A = ℕ} 0 1 = cc in omega arith)
 
       line-listed : (c : Check) → lineCheck (s .classes) (x .line) ≡ c → Listed refusal
@@ -160,5 +162,5 @@ module _ (x : Input) (q : Query) where
         same {other = other} (rw read) (grammarWrong w, grammar-number w)
     grammar-listed (Accepted s) read = line-listed s read _ refl
 
-    pub early-listed : TurnedDown x q (rowOf refusal) × (rowOf refusal .number ≤ 9)
+    pub early-listed : TurnedDown x q (rowOf refusal) × EarlyNumber (rowOf refusal .number)
     early-listed = grammar-listed _ refl

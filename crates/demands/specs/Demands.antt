@@ -28,7 +28,7 @@ use Rattle.report.specs.declared.job.JobReading.the-variants.{Read}
 use Rattle.report.specs.Job.{jobOf, questionsPart}
 use Rattle.report.specs.Printed.{refusedLine, printed}
 use Rattle.demands.specs.Question.{Input, Query, chart, ends, marks, tree, forest, rowBefore, Result, Allowed}
-use Rattle.demands.specs.TurnedDown.{Encodes, AllRight, TurnedDown}
+use Rattle.demands.specs.TurnedDown.{EarlyNumber, LateNumber, Encodes, AllRight, TurnedDown}
 use Rattle.demands.specs.Textbook.{Derives, DerivedAre, MarksToken}
 use Rattle.demands.specs.Prints.{jobInput, PrintsAnswers}
 
@@ -40,7 +40,7 @@ pub record KeptPast (size : ℕ) (before after : List ℕ) : Type 0 where
 -- a question that tells this has filled the work memory: it answered, or it was turned down by 10 or 11
 pub data Fills : Told → Type 0 where
   answers : {values : List ℕ} → Fills (answered values)
-  late : {row : Row} → 10 ≤ row .number → Fills (refused row)
+  late : {row : Row} → LateNumber (row .number) → Fills (refused row)
 
 -- Demand 1. Grammar, line and questions may be any bytes and numbers.
 pub record Demand1 : Type 0 where
@@ -52,9 +52,9 @@ pub record Demand1 : Type 0 where
   -- after any refusal the row that is lent for marks, nodes or records is as it was
   pub row : (x : Input) (q : Query) (r : Result q) → Allowed x q r →
       (row : Row) → r .told ≡ refused row → r .row ≡ rowBefore q
-  -- after 1 to 9 the work memory is as it was, too
+  -- after 1 to 9 and 14 the work memory is as it was, too
   pub work : (x : Input) (q : Query) (r : Result q) → Allowed x q r →
-      (row : Row) → r .told ≡ refused row → row .number ≤ 9 → (r .words ≡ x .words) × (r .depths ≡ x .depths)
+      (row : Row) → r .told ≡ refused row → EarlyNumber (row .number) → (r .words ≡ x .words) × (r .depths ≡ x .depths)
   -- it is filled exactly when all that is looked at before is right
   pub fills : (x : Input) (q : Query) (r : Result q) → Allowed x q r →
       Fills (r .told) ↔ ((G : Grammar) × AllRight G x q)

@@ -1,6 +1,7 @@
 -- The document's table of refusals, said of a question: by which number and at which place it is turned down. Each case names what is right before it, in the document's order.
 use Prim.Native.Nat.{ℕ, _≤_, _<_}
 use mathlib.Core.Path.{_≡_}
+use mathlib.Core.Logic.{_⊎_}
 use mathlib.Core.List.{List}
 use lib.ListN.{length, getD}
 use Rattle.refusals.specs.declared.Row.{Row}
@@ -13,6 +14,7 @@ use Rattle.derivation.specs.Choice.{Chosen}
 use Rattle.checks.specs.Line.{IsLine, FirstNoClass}
 use Rattle.checks.specs.Memory.{chartSize, depthsSize}
 use Rattle.grammar.specs.Limits.{WithinLimits}
+use Rattle.grammar.specs.Repeats.{Distinct}
 use Rattle.grammar.specs.Encoding.{encode}
 use Rattle.grammar.specs.Beginning.{Refusing}
 use Rattle.tree.specs.Bytes.{bytes}
@@ -22,9 +24,17 @@ use Rattle.demands.specs.Question.{Input, Query, tree, marks, forest, nu
 abbrev pub by : ℕ → ℕ → Row
 by number place = record { number = number; place = place }
 
--- the bytes are the encoding of G, a grammar within the limits
+-- the numbers of refusals before the filling, and of those after it
+abbrev pub EarlyNumber : ℕ → Type 0
+EarlyNumber number = (number ≤ 9) ⊎ (number ≡ 14)
+
+abbrev pub LateNumber : ℕ → Type 0
+LateNumber number = (number ≡ 10) ⊎ (number ≡ 11)
+
+-- the bytes are the encoding of G, a grammar within the limits whose rules all differ
 pub record Encodes (G : Grammar) (g : List ℕ) : Type 0 where
   pub within : WithinLimits G
+  pub distinct : Distinct G
   pub encoding : g ≡ encode G
 
 -- of the numbers A, i, j that a question asks with, the one at this place is right: A is a category; i is on the line; j is on the line, and not before i
@@ -48,7 +58,7 @@ pub record AllRight (G : Grammar) (x : Input) (q : Query) : Type 0 where
   pub depths : depthsSize (length (G .categories)) (length (x .line)) ≤ length (x .depths)
 
 pub data TurnedDown (x : Input) : Query → Row → Type 0 where
-  -- 1 to 5: where the bytes end early, or at the first byte that is not right
+  -- 1 to 5 and 14: where the bytes end early, at the first byte that is not right, or at the first rule that repeats an earlier one
   grammarWrong : {q : Query} {row : Row} → Refusing (x .grammar) row → TurnedDown x q row
   -- 6: the line has over 63 tokens
   lineTooLong : {q : Query} {G : Grammar} → Encodes G (x .grammar) → 63 < length (x .line) → TurnedDown x q (by 6 63)

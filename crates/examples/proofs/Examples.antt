@@ -31,6 +31,7 @@ use Rattle.derivation.proofs.Tests.{and-parts}
 use Rattle.derivation.proofs.Table.{depthOf-is}
 use Rattle.checks.specs.Line.{tokensFrom, lineCheck}
 use Rattle.checks.specs.Question.{startCheck, spanCheck}
+use Rattle.grammar.specs.Repeats.{sameSymbols, sameRule, isRepeated}
 use Rattle.grammar.specs.Reading.{eachFrom, ruleFrom, rulesFrom, flagsSection, rulesSection, sectionsOf, readOf}
 use Rattle.grammar.specs.Value.{standing, rulesAt, grammarOf}
 use Rattle.grammar.specs.declared.reading.Sections.{Sections}
@@ -51,7 +52,7 @@ use Rattle.examples.proofs.AnswerLaws.{answer-holds}
 
 -- the computed test: every entry of the table passes
 pub all-pass : (line : List ℕ) (A i j b : ℕ) → all (table line A i j b) ≡ true
-unfolding table all test text lineOf spaced boundTest noFactsTest readTest turnedTest filledTest answerTest treeTest workTest rowTest placeTest writesNothing passes sameTold sameBy same every wordAt numberAt trailingZeros digit countBelow readOf sectionsOf flagsSection rulesSection rulesFrom ruleFrom eachFrom grammarOf rulesAt standing lineCheck tokensFrom startCheck spanCheck roundsOf greatest factCount total facts forest passing isBranch gathered kept marks secret covered shown chosen chosenRow chosenEnd chosenRule below firstFrom depthOf depths derivation.table listed isFound seen grade round children child tokenIs some flatten
+unfolding table all test text lineOf spaced boundTest noFactsTest readTest turnedTest filledTest answerTest treeTest workTest rowTest placeTest writesNothing passes sameTold sameBy same every wordAt numberAt trailingZeros digit countBelow readOf sectionsOf flagsSection rulesSection rulesFrom ruleFrom eachFrom isRepeated sameRule sameSymbols grammarOf rulesAt standing lineCheck tokensFrom startCheck spanCheck roundsOf greatest factCount total facts forest passing isBranch gathered kept marks secret covered shown chosen chosenRow chosenEnd chosenRule below firstFrom depthOf depths derivation.table listed isFound seen grade round children child tokenIs some flatten
 all-pass line A i j b = refl
 
 -- a question's entry that passes holds

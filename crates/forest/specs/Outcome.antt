@@ -19,7 +19,7 @@ use Rattle.forest.specs.Told.{forestTold}
 use Rattle.forest.specs.Record.{recordOf}
 
 pub data ForestOutcome (g line words depths : List ℕ) (rows : List Branch) (answer : ForestAnswer) (words′ depths′ : List ℕ) (rows′ : List Branch) : Type 0 where
-  -- 1 to 9: the first refusal is the answer, and no lent memory changes
+  -- 1 to 9 and 14: the first refusal is the answer, and no lent memory changes
   turnedDown : {refusal : Refusal} →
       early (chartChecks g line words depths) ≡ check.Refused refusal →
       answer ≡ variants.Refused refusal → words′ ≡ words → depths′ ≡ depths → rows′ ≡ rows →

@@ -1,21 +1,22 @@
 -- What read sections have: each part inside the bytes and within its limits, and the rules one after the other up to the end.
 use Prim.Native.Nat.{ℕ, zero, suc, _+_, _-_, _≤_, _<_}
 use mathlib.Core.Path.{_≡_, refl, ap, sym, _∙_}
-use mathlib.Core.Bool.{Bool, true, false, cond}
-use mathlib.Core.List.{List, []}
+use mathlib.Core.Bool.{Bool, true, false, not, cond}
+use mathlib.Core.List.{List, [], _∷_, _++_, append-assoc, append-nil}
 use native.Mathlib.Numerals.{add-one}
 use native.Mathlib.Omega.{arith}
 use lib.ListN.{take, drop, length, getD}
 use lib.Dec.{leb, ltb}
-use borrow.Author.Tests.{ltb-true, ltb-false, leb-true}
+use borrow.Author.Tests.{ltb-true, ltb-false, leb-true, not-true}
 use Rattle.refusals.specs.declared.Refusal.{Refusal}
 use Rattle.refusals.specs.declared.Refusal.the-variants.{BytesAfterRules}
-use Rattle.derivation.specs.Grammar.{rule}
+use Rattle.derivation.specs.Grammar.{Rule, rule}
 use Rattle.grammar.specs.declared.reading.Sections.{Sections}
 use Rattle.grammar.specs.declared.reading.Pass.{Pass}
 use Rattle.grammar.specs.declared.reading.Pass.the-variants.{To, Stop}
 use Rattle.grammar.specs.declared.reading.Reading.{Reading}
 use Rattle.grammar.specs.declared.reading.Reading.the-variants.{Accepted, Refused}
+use Rattle.grammar.specs.Repeats.{isRepeated}
 use Rattle.grammar.specs.Reading.{byte, thenRead, eachFrom, isFlag, isSymbol, ruleFrom, rulesFrom, flagsSection, rulesSection, onward, sectionsAt, sectionsOf, nothingAfter, readOf}
 use Rattle.grammar.specs.Value.{Sectioned, standing, after, rulesAt, startOf, grammarOf, Stands, Found}
 use Rattle.grammar.proofs.Parts.{part-length, part-at}
@@ -77,26 +78,39 @@ module _ (g : List ℕ) (t n : ℕ) where
       never : Stop refusal ≡ To end → ⊥
       never h = let z : _≡_ {A = ℕ} 0 1 = cc in omega arith
 
-  -- rules that were passed over: the first of them, and the others
-  pub rules-to : (count at end : ℕ) → 0 < count → rulesFrom g t n count at ≡ To end → RulePassed g t n at × (rulesFrom g t n (count - 1) (after g at) ≡ To end)
-  rules-to count at end h e =
-      let m = and-to (ruleFrom g t n at) (λ next. rulesFrom g t n (count - 1) next) end (sym (rules-step g t n count at h) ∙ e) in
+  -- rules that were passed over: the first of them, which is new, and the others
+  pub rules-to :
+      (earlier : List Rule) (count at end : ℕ) → 0 < count → rulesFrom g t n earlier count at ≡ To end →
+      RulePassed g t n at × (isRepeated (standing g at) earlier ≡ false) × (rulesFrom g t n (earlier ++ (standing g at ∷ [])) (count - 1) (after g at) ≡ To end)
+  rules-to earlier count at end h e =
+      let m = and-to (ruleFrom g t n at) _ end (sym (rules-step g t n earlier count at h) ∙ e) in
       let r = rule-to at (m .0) (m .1) in
-      (r .1, rw (r .0) at (m .2))
+      let u = must-to (not (isRepeated (standing g at) earlier)) _ _ end (m .2) in
+      (r .1, not-true _ (u .0), rw (r .0) at (u .1))
 
-  pub rules-inside : (count at end : ℕ) → at ≤ length g → rulesFrom g t n count at ≡ To end → end ≤ length g
+  pub rules-inside : (earlier : List Rule) (count at end : ℕ) → at ≤ length g → rulesFrom g t n earlier count at ≡ To end → end ≤ length g
   unfolding rulesFrom
-  rules-inside zero at end h e = let z : at ≡ end = to-inj at end e in omega arith
-  rules-inside (suc count) at end h e =
-      let m = and-to (ruleFrom g t n at) (λ next. rulesFrom g t n count next) end e in
-      let r = rule-to at (m .0) (m .1) in
-      rules-inside count (m .0) end (omega (arith, r .0, r .1 .stands .inside)) (m .2)
+  rules-inside earlier zero at end h e = let z : at ≡ end = to-inj at end e in omega arith
+  rules-inside earlier (suc count) at end h e =
+      let r = rules-to earlier (suc count) at end (omega arith) e in
+      let z : suc count - 1 ≡ count = omega arith in
+      rules-inside (earlier ++ (standing g at ∷ [])) count (after g at) end (omega (arith, r .0 .stands .inside)) (rw z at (r .2))
 
   -- each of them, where it stands
-  pub rules-each : (count at end p : ℕ) → p < count → rulesFrom g t n count at ≡ To end → RulePassed g t n (startOf g p at)
+  pub rules-each : (earlier : List Rule) (count at end p : ℕ) → p < count → rulesFrom g t n earlier count at ≡ To end → RulePassed g t n (startOf g p at)
   unfolding startOf
-  rules-each count at end zero h e = rules-to count at end (omega arith) e .0
-  rules-each count at end (suc p) h e = rules-each (count - 1) (after g at) end p (omega arith) (rules-to count at end (omega arith) e .1)
+  rules-each earlier count at end zero h e = rules-to earlier count at end (omega arith) e .0
+  rules-each earlier count at end (suc p) h e =
+      rules-each (earlier ++ (standing g at ∷ [])) (count - 1) (after g at) end p (omega arith) (rules-to earlier count at end (omega arith) e .2)
+
+  -- and each is new
+  pub rules-new :
+      (earlier : List Rule) (count at end p : ℕ) → p < count → rulesFrom g t n earlier count at ≡ To end → isRepeated (standing g (startOf g p at)) (earlier ++ rulesAt g p at) ≡ false
+  unfolding startOf rulesAt
+  rules-new earlier count at end zero h e = rw (append-nil earlier) (rules-to earlier count at end (omega arith) e .1)
+  rules-new earlier count at end (suc p) h e =
+      rw (← append-assoc earlier (standing g at ∷ []) (rulesAt g p (after g at)))
+      (rules-new (earlier ++ (standing g at ∷ [])) (count - 1) (after g at) end p (omega arith) (rules-to earlier count at end (omega arith) e .2))
 
 -- rule p of the list is the one that stands there
 module _ (g : List ℕ) where
@@ -134,7 +148,7 @@ pub record Whole (g : List ℕ) (s : Sections) : Type 0 where
   pub inside : s .end ≤ length g
   pub class-flags : (i : ℕ) → i < s .classes → byte g (1 + i) ≤ 1
   pub category-flags : (i : ℕ) → i < s .categories → byte g (s .flags + i) ≤ 1
-  pub rules : rulesFrom g (s .classes) (s .categories) (s .rules) (s .first) ≡ To (s .end)
+  pub rules : rulesFrom g (s .classes) (s .categories) [] (s .rules) (s .first) ≡ To (s .end)
 
 onward-to : (p : Pass) (go : ℕ → Reading) (s : Sections) → onward p go ≡ Accepted s → (next : ℕ) × (p ≡ To next) × (go next ≡ Accepted s)
 onward-to (To at) go s e = (at, refl, e)
@@ -168,7 +182,7 @@ whole-of g a b end first second third =
       flags-is = omega (arith, f .past);
       first-is = omega (arith, f .past, h .past);
       first-inside = omega (arith, three .inside);
-      inside = rules-inside g (byte g 0) (byte g a) (byte g b) (b + 1) end (omega (arith, three .inside)) (three .rules);
+      inside = rules-inside g (byte g 0) (byte g a) [] (byte g b) (b + 1) end (omega (arith, three .inside)) (three .rules);
       class-flags = λ i l. leb-true _ _ (f .good i l);
       category-flags = λ i l. leb-true _ _ (h .good i l);
       rules = three .rules;
@@ -211,7 +225,7 @@ module _ (g : List ℕ) (s : Sections) (e : Sectioned g s) where
   pub found : (p : ℕ) → p < s .rules → Found g s p (startOf g p (s .first))
   unfolding grammarOf
   found p h =
-      let r = rules-each g (s .classes) (s .categories) (s .rules) (s .first) (s .end) p h (whole g s e .rules) in
+      let r = rules-each g (s .classes) (s .categories) [] (s .rules) (s .first) (s .end) p h (whole g s e .rules) in
       record { place = refl; is = sym (rules-nth g (s .rules) p (s .first) h); stands = r .stands; left = r .left; symbols = r .symbols }
 
   -- rule 0 stands first, and the next rule past this one

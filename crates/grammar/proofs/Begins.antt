@@ -1,7 +1,7 @@
--- The beginnings by `encode` alone: they are the bytes with which an encoding within the limits begins, so a refusal's place is the length of the longest of them.
+-- The place of a refusal by `encode` alone: with the bytes before it an encoding within the limits begins, and but for 14 it is the last such place.
 use Prim.Native.Nat.{ℕ, zero, suc, _+_, _-_, _≤_, _<_}
 use mathlib.Core.Path.{_≡_, refl, sym, _∙_}
-use mathlib.Core.Logic.{_↔_}
+use mathlib.Core.Logic.{_≢_}
 use mathlib.Core.List.{List, [], _∷_, _++_, append-assoc, append-nil}
 use native.Mathlib.Omega.{arith}
 use lib.ListN.{length, take, length-append}
@@ -15,7 +15,13 @@ use Rattle.grammar.specs.Limits.{RuleWithin, WithinLimits}
 use Rattle.grammar.specs.Encoding.{encodeRule, encode}
 use Rattle.grammar.specs.Beginning.{
   NextByte,
+  countBetween,
+  flagByte,
+  leftOf,
+  symbolOf,
+  noMore,
   RightByte,
+  numberOf,
   FlagsSoFar,
   RulesSoFar,
   bytesSoFar,
@@ -32,6 +38,7 @@ use Rattle.grammar.specs.Beginning.{
   Refusing,
   endsEarly,
   notRight,
+  ruleRepeated,
   EncodingBegins,
 }
 use Rattle.grammar.proofs.Growing.{
@@ -46,12 +53,9 @@ use Rattle.grammar.proofs.Growing.{
   ruleless-within,
   ruleless-bytes,
   no-flags,
-  Judged,
-  allRight,
-  firstWrong,
-  judged,
 }
-use Rattle.grammar.proofs.Refusals.{refused-iff, whole-not-refused}
+use Rattle.grammar.proofs.Encoding.{encoding-refused}
+use Rattle.grammar.proofs.Refusals.{refused-iff}
 
 begins-before : (b x : List ℕ) → EncodingBegins (b ++ x) → EncodingBegins b
 begins-before b x s = record { rest = x ++ s .rest; grammar = s .grammar; within = s .within; encoded = sym (append-assoc b x (s .rest)) ∙ s .encoded }
@@ -73,13 +77,14 @@ unfolding withRule
 rules-finish zero w e h = rules-last w (omega arith)
 rules-finish (suc more) {G} {P} w e h =
     let r = rule 0 [] in
-    let u : RulesSoFar G P = record { within = w; fewer = omega arith; high = h } in
     begins-before (bytesSoFar G P) (encodeRule r)
-    (rule-before G P r (rules-finish more {G = withRule G r} (with-within u (empty-within (w .some-category))) (omega (arith, length-snoc (G .rules) r)) h))
+    (rule-before G P r (rules-finish more {G = withRule G r} (with-within w (omega arith) (empty-within (w .some-category))) (omega (arith, length-snoc (G .rules) r)) h))
 
 rule-last : {G : Grammar} {P : ℕ} {r : Rule} → RulesSoFar G P → RuleWithin G r → EncodingBegins (bytesSoFar G P ++ encodeRule r)
 unfolding withRule
-rule-last {G} {P} {r} u w = rule-before G P r (rules-finish (P - length (G .rules) - 1) {G = withRule G r} (with-within u w) (omega (arith, length-snoc (G .rules) r)) (u .high))
+rule-last {G} {P} {r} u w =
+    rule-before G P r
+    (rules-finish (P - length (G .rules) - 1) {G = withRule G r} (with-within (u .within) (omega (arith, u .fewer, u .high)) w) (omega (arith, u .fewer, length-snoc (G .rules) r)) (u .high))
 
 -- class 0, for as many symbols as are to come
 symbol-more : {G : Grammar} {P A : ℕ} {s : List ℕ} → RulesSoFar G P → RuleWithin G (rule A s) → length s < 8 → RuleWithin G (rule A (s ++ (0 ∷ [])))
@@ -116,32 +121,35 @@ finish (someClasses {T} {f} v l) = classes-finish (T - length f) v (omega arith)
 finish (allClasses v) = classes-last v refl
 finish (someCategories {N} {f} {h} v w l) = categories-finish (N - length h) v w (omega arith)
 finish (allCategories v w) = categories-last v w refl
-finish (someRules {G} {P} u) = rules-finish (P - length (G .rules)) (u .within) (omega arith) (u .high)
+finish (someRules {G} {P} u) = rules-finish (P - length (G .rules)) (u .within) (omega (arith, u .fewer)) (u .high)
 finish (leftCategory {G} {P} {A} u l) = part-before (bytesSoFar G P) (A ∷ []) 0 (rule-last u (empty-within l))
 finish (someSymbols {k = k} {s = s} u w l h) = symbols-finish (k - length s) u w (omega arith) h
-finish (wholeGrammar {G} w) = record { rest = []; grammar = G; within = w; encoded = append-nil (encode G) }
+finish (wholeGrammar {G} w d) = record { rest = []; grammar = G; within = w; encoded = append-nil (encode G) }
 
--- and none goes on with a byte that is not right
+-- and none goes on with a byte that is not right: an encoding within the limits is accepted, or refused by 14 alone
 never-goes-on : {b : List ℕ} {next : NextByte} (y : ℕ) (x : List ℕ) → Beginning b next → ¬ RightByte next y → ¬ EncodingBegins (b ++ (y ∷ x))
-never-goes-on {b} y x s w f =
+never-goes-on {b} {next} y x s w f =
     let e : b ++ (y ∷ (x ++ f .rest)) ≡ encode (f .grammar) = sym (append-assoc b (y ∷ x) (f .rest)) ∙ f .encoded in
-    whole-not-refused (rw e at (notRight s y w (x ++ f .rest))) (wholeGrammar (f .within))
-
--- bytes are a beginning exactly when an encoding within the limits begins with them
-pub begins-iff : (b : List ℕ) → ((next : NextByte) × Beginning b next) ↔ EncodingBegins b
-begins-iff b = (λ s. finish (s .1), go (judged b))
+    let told = refused-iff _ _ .1 (notRight s y w (x ++ f .rest)) in
+    not-fourteen next (encoding-refused (f .grammar) (f .within) _ (rw e at told))
   where
-    go : {x : List ℕ} → Judged x → EncodingBegins x → (next : NextByte) × Beginning x next
-    go (allRight s) f = (_, s)
-    go (firstWrong s y w rest) f = absurd (never-goes-on y rest s w f)
+    not-fourteen : (n : NextByte) → numberOf n ≡ 14 → ⊥
+    not-fourteen (countBetween low high) k = omega arith
+    not-fourteen flagByte k = omega arith
+    not-fourteen (leftOf G) k = omega arith
+    not-fourteen (symbolOf G) k = omega arith
+    not-fourteen noMore k = omega arith
 
--- the place of a refusal: an encoding begins with the bytes before it, and none with the byte there as well
+-- the place of a refusal: an encoding within the limits begins with the bytes before it; and by 14 apart, none with the byte there as well
 pub refused-place :
     (g : List ℕ) (row : Row) → readingTold (readOf g) ≡ refused row →
-    (row .place ≤ length g) × EncodingBegins (take (row .place) g) × (row .place < length g → ¬ EncodingBegins (take (row .place + 1) g))
+    (row .place ≤ length g) × EncodingBegins (take (row .place) g) × (row .number ≢ 14 → row .place < length g → ¬ EncodingBegins (take (row .place + 1) g))
 refused-place g row told = go (refused-iff g row .0 told)
   where
-    go : {x : List ℕ} {r : Row} → Refusing x r → (r .place ≤ length x) × EncodingBegins (take (r .place) x) × (r .place < length x → ¬ EncodingBegins (take (r .place + 1) x))
-    go (endsEarly {b} s more) = (omega arith, rw (take-length b) (finish s), λ l. absurd (omega arith))
+    go : {x : List ℕ} {r : Row} → Refusing x r → (r .place ≤ length x) × EncodingBegins (take (r .place) x) × (r .number ≢ 14 → r .place < length x → ¬ EncodingBegins (take (r .place + 1) x))
+    go (endsEarly {b} s more) = (omega arith, rw (take-length b) (finish s), λ n l. absurd (omega arith))
     go (notRight {b} s y w rest) =
-        (omega (arith, length-append b (y ∷ rest)), rw (take-append-seam b (y ∷ rest)) (finish s), λ l. rw (take-append-add b (y ∷ rest) 1) (never-goes-on y [] s w))
+        (omega (arith, length-append b (y ∷ rest)), rw (take-append-seam b (y ∷ rest)) (finish s), λ n l. rw (take-append-add b (y ∷ rest) 1) (never-goes-on y [] s w))
+    go (ruleRepeated {G} {P} {r} u w same rest) =
+        let b = bytesSoFar G P in
+        (omega (arith, length-append b (encodeRule r ++ rest)), rw (take-append-seam b (encodeRule r ++ rest)) (finish (someRules u)), λ n. absurd (n refl))

@@ -1,23 +1,25 @@
--- Bytes that were accepted: within the limits, and the encoding of the grammar that they stand for.
+-- Bytes that were accepted: the encoding of the grammar that they stand for, which is within the limits and repeats no rule.
 use Prim.Native.Nat.{ℕ, zero, suc, _+_, _-_, _≤_, _<_}
 use mathlib.Core.Path.{_≡_, refl, ap, sym, _∙_}
-use mathlib.Core.Bool.{true}
-use mathlib.Core.List.{List, _∷_, _++_}
+use mathlib.Core.Bool.{true, false≢true}
+use mathlib.Core.List.{List, [], _∷_, _++_}
 use native.Mathlib.Numerals.{add-one}
 use native.Mathlib.Omega.{arith}
-use lib.ListN.{take, drop, length, take-append-drop}
+use lib.ListN.{take, drop, length, getD, take-append-drop}
 use lib.Seq.{drop-cons, drop-drop, drop-length}
 use borrow.Author.Tests.{ltb-true, lt-ltb, le-ltb}
-use Rattle.derivation.specs.Grammar.{Grammar, Proper, ruleAt}
+use Rattle.derivation.specs.Grammar.{Rule, Grammar, Proper, rule, ruleAt}
 use Rattle.grammar.specs.declared.reading.Sections.{Sections}
 use Rattle.grammar.specs.declared.reading.Pass.the-variants.{To}
 use Rattle.grammar.specs.declared.reading.Reading.the-variants.{Accepted}
 use Rattle.grammar.specs.Reading.{byte, isSymbol, rulesFrom, sectionsOf, readOf}
 use Rattle.grammar.specs.Value.{standing, after, rulesAt, startOf, grammarOf, Stands}
 use Rattle.grammar.specs.Limits.{FlagsWithin, SymbolWithin, RuleWithin, WithinLimits}
+use Rattle.grammar.specs.Repeats.{Distinct}
 use Rattle.grammar.specs.Encoding.{encodeRule, encodeRules, encode}
 use Rattle.grammar.proofs.Parts.{part-length, part-at}
-use Rattle.grammar.proofs.Accepted.{RulePassed, rules-to, rules-each, rules-nth, whole, accepted}
+use Rattle.grammar.proofs.Accepted.{RulePassed, rules-to, rules-each, rules-new, rules-nth, whole, accepted}
+use Rattle.grammar.proofs.RepeatLaws.{repeats-one}
 
 -- as many bytes as `count`, from a position
 module _ (g : List ℕ) (count at : ℕ) (inside : at + count ≤ length g) where
@@ -43,13 +45,13 @@ module _ (g : List ℕ) where
       let next : drop (suc at) g ≡ length right ∷ (right ++ drop (after g at) g) = rw (← add-one at) (counted g k (at + 2) (s .inside) (at + 1) (omega arith) refl) in
       drop-cons g at 0 (omega arith) ∙ rw next
 
-  rules-encoded : (t n count at : ℕ) → rulesFrom g t n count at ≡ To (length g) → drop at g ≡ encodeRules (rulesAt g count at)
+  rules-encoded : (t n : ℕ) (earlier : List Rule) (count at : ℕ) → rulesFrom g t n earlier count at ≡ To (length g) → drop at g ≡ encodeRules (rulesAt g count at)
   unfolding rulesFrom rulesAt encodeRules
-  rules-encoded t n zero at e = let z : at ≡ length g = cc in rw z (drop-length g)
-  rules-encoded t n (suc count) at e =
-      let r = rules-to g t n (suc count) at (length g) (omega arith) e in
+  rules-encoded t n earlier zero at e = let z : at ≡ length g = cc in rw z (drop-length g)
+  rules-encoded t n earlier (suc count) at e =
+      let r = rules-to g t n earlier (suc count) at (length g) (omega arith) e in
       let z : suc count - 1 ≡ count = omega arith in
-      rule-encoded at (r .0 .stands) ∙ ap (λ (rest : List ℕ). encodeRule (standing g at) ++ rest) (rules-encoded t n count (after g at) (rw z at (r .1)))
+      rule-encoded at (r .0 .stands) ∙ ap (λ (rest : List ℕ). encodeRule (standing g at) ++ rest) (rules-encoded t n (earlier ++ (standing g at ∷ [])) count (after g at) (rw z at (r .2)))
 
   rules-length : (count at : ℕ) → length (rulesAt g count at) ≡ count
   unfolding rulesAt
@@ -101,7 +103,7 @@ module _ (b : List ℕ) (s : Sections) (read : sectionsOf b ≡ Accepted s) wher
   each-within p l =
       rw (rules-nth b (s .rules) p (s .first) l)
       (rule-within (grammarOf b s) (s .classes) (s .categories) class-count category-count b (startOf b p (s .first))
-      (rules-each b (s .classes) (s .categories) (s .rules) (s .first) (s .end) p l (whole b s read .rules)))
+      (rules-each b (s .classes) (s .categories) [] (s .rules) (s .first) (s .end) p l (whole b s read .rules)))
 
   pub sections-within : WithinLimits (grammarOf b s)
   unfolding grammarOf
@@ -118,6 +120,17 @@ module _ (b : List ℕ) (s : Sections) (read : sectionsOf b ≡ Accepted s) wher
         each = λ p l. each-within p (rw rule-count at l);
       }
 
+  -- its rules all differ
+  pub sections-distinct : Distinct (grammarOf b s)
+  unfolding grammarOf
+  sections-distinct p q l h e =
+      let k : q < s .rules = rw rule-count at h in
+      let at = s .first in
+      let stands : getD (rulesAt b q at) p (rule 0 []) ≡ standing b (startOf b q at) =
+      rules-nth b q p at l ∙ sym (rules-nth b (s .rules) p at (omega arith)) ∙ e ∙ rules-nth b (s .rules) q at k in
+      let new = rules-new b (s .classes) (s .categories) [] (s .rules) at (s .end) q k (whole b s read .rules) in
+      false≢true (sym new ∙ repeats-one (standing b (startOf b q at)) (rulesAt b q at) p (rw rules-length (omega arith)) stands)
+
   -- the theory of derivations asks for this
   pub sections-proper : Proper (grammarOf b s)
   sections-proper = record { lefts = λ p l. sections-within .each p l .left }
@@ -127,10 +140,10 @@ module _ (b : List ℕ) (s : Sections) (read : sectionsOf b ≡ Accepted s) wher
       let w = whole b s read in
       let at : s .flags + s .categories ≡ s .classes + s .categories + 2 = omega (arith, w .flags-is) in
       let next : suc (s .classes + s .categories + 2) ≡ s .first = omega (arith, w .first-is) in
-      let rules : rulesFrom b (s .classes) (s .categories) (s .rules) (s .first) ≡ To (length b) = rw e at (w .rules) in
+      let rules : rulesFrom b (s .classes) (s .categories) [] (s .rules) (s .first) ≡ To (length b) = rw e at (w .rules) in
       rw (at, rules-length b (s .rules) (s .first))
       (drop-cons b (s .classes + s .categories + 2) 0 (omega (arith, w .first-inside))
-      ∙ rw (next, w .rule-count, rules-encoded b (s .classes) (s .categories) (s .rules) (s .first) rules))
+      ∙ rw (next, w .rule-count, rules-encoded b (s .classes) (s .categories) [] (s .rules) (s .first) rules))
 
   sections-encode : s .end ≡ length b → b ≡ encode (grammarOf b s)
   unfolding encode grammarOf
@@ -140,9 +153,9 @@ module _ (b : List ℕ) (s : Sections) (read : sectionsOf b ≡ Accepted s) wher
       counted b (s .classes) 1 classes-inside 0 refl (w .class-count)
       ∙ rw (at, counted b (s .categories) (s .flags) categories-inside (s .classes + 1) (omega (arith, w .flags-is)) (w .category-count), rules-section-encoded e)
 
--- accepted bytes are the encoding of the grammar that is read, and it is within the limits
-pub accepted-encodes : (b : List ℕ) (s : Sections) → readOf b ≡ Accepted s → WithinLimits (grammarOf b s) × (b ≡ encode (grammarOf b s))
-accepted-encodes b s e = let a = accepted b s e in (sections-within b s (a .0), sections-encode b s (a .0) (a .1))
+-- accepted bytes are the encoding of the grammar that is read, it is within the limits and its rules all differ
+pub accepted-encodes : (b : List ℕ) (s : Sections) → readOf b ≡ Accepted s → WithinLimits (grammarOf b s) × Distinct (grammarOf b s) × (b ≡ encode (grammarOf b s))
+accepted-encodes b s e = let a = accepted b s e in (sections-within b s (a .0), sections-distinct b s (a .0), sections-encode b s (a .0) (a .1))
 
 pub accepted-proper : (b : List ℕ) (s : Sections) → readOf b ≡ Accepted s → Proper (grammarOf b s)
 accepted-proper b s e = sections-proper b s (accepted b s e .0)

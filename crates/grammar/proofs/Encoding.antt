@@ -1,8 +1,8 @@
--- Bytes are accepted exactly when they are the encoding of a grammar within the limits, and that grammar is the value read.
+-- Bytes are accepted exactly when they are the encoding of a grammar within the limits whose rules all differ, and that grammar is the value read.
 use Prim.Native.Nat.{ℕ, zero, suc, _+_, _-_, _≤_, _<_}
 use mathlib.Core.Path.{_≡_, refl, ap, sym, _∙_}
-use mathlib.Core.Logic.{_↔_}
-use mathlib.Core.Bool.{Bool, true, false, cond}
+use mathlib.Core.Logic.{_↔_, _⊎_, inl, inr}
+use mathlib.Core.Bool.{Bool, true, false, not, cond}
 use mathlib.Core.List.{List, [], _∷_, _++_, append-assoc, append-nil}
 use native.Mathlib.Decide.{decLt}
 use native.Mathlib.Omega.{arith}
@@ -10,19 +10,24 @@ use lib.ListN.{take, drop, length, getD, length-append, length-drop, List·getD-
 use lib.Seq.{getD-drop, drop-drop, take-append-seam, drop-append-seam}
 use lib.Dec.{ltb}
 use borrow.Author.Tests.{ltb-true, ltb-false, lt-ltb, le-leb}
+use Rattle.refusals.specs.declared.Row.{Row}
 use Rattle.refusals.specs.declared.Refusal.{Refusal}
-use Rattle.refusals.specs.Told.{answered}
+use Rattle.refusals.specs.declared.Refusal.the-variants.{RuleRepeated}
+use Rattle.refusals.specs.Told.{answered, refused}
 use Rattle.derivation.specs.Grammar.{Rule, Grammar, rule}
 use Rattle.grammar.specs.declared.reading.Sections.{Sections}
-use Rattle.grammar.specs.declared.reading.Pass.the-variants.{To}
-use Rattle.grammar.specs.declared.reading.Reading.the-variants.{Accepted}
-use Rattle.grammar.specs.Reading.{byte, eachFrom, isFlag, isSymbol, ruleFrom, rulesFrom, flagsSection, rulesSection, sectionsAt, sectionsOf, readOf}
+use Rattle.grammar.specs.declared.reading.Pass.{Pass}
+use Rattle.grammar.specs.declared.reading.Pass.the-variants.{To, Stop}
+use Rattle.grammar.specs.declared.reading.Reading.the-variants.{Accepted, Refused}
+use Rattle.grammar.specs.Reading.{byte, must, eachFrom, isFlag, isSymbol, ruleFrom, rulesFrom, flagsSection, rulesSection, sectionsAt, sectionsOf, readOf}
 use Rattle.grammar.specs.Told.{readingTold}
 use Rattle.grammar.specs.Value.{standing, after, rulesAt, grammarOf}
 use Rattle.grammar.specs.Limits.{FlagsWithin, SymbolWithin, RuleWithin, WithinLimits}
+use Rattle.grammar.specs.Repeats.{isRepeated, Distinct}
 use Rattle.grammar.specs.Encoding.{encodeRule, encodeRules, encode}
 use Rattle.grammar.specs.Beginning.{FlagsSoFar, bytesSoFar}
-use Rattle.grammar.proofs.ReadingLaws.{each-none, each-past, rules-none, rules-step, sections-whole, read-whole}
+use Rattle.grammar.proofs.ReadingLaws.{each-none, each-past, rules-none, rules-step, sections-third, sections-whole, read-refused, read-whole}
+use Rattle.grammar.proofs.RepeatLaws.{distinct-new}
 use Rattle.grammar.proofs.Accepted.{accepted}
 use Rattle.grammar.proofs.Encoded.{class-count, category-count, rule-count, accepted-encodes}
 
@@ -104,14 +109,14 @@ module _ (g rest : List ℕ) (r : Rule) (at : ℕ) (e : drop at g ≡ encodeRule
   right-next : drop (at + 2) g ≡ r .right ++ rest
   right-next = let z : at + 2 ≡ at + 1 + 1 = omega arith in rw z (byte-after g (r .right ++ rest) (length (r .right)) (at + 1) length-next)
 
-  rule-is : standing g at ≡ r
+  pub rule-is : standing g at ≡ r
   unfolding standing
   rule-is = rw (left-is, length-is, bytes-are g (r .right) rest (at + 2) right-next)
 
   rule-after : drop (after g at) g ≡ rest
   rule-after = rw length-is (bytes-after g (r .right) rest (at + 2) right-next)
 
-  rule-passed : (G : Grammar) → RuleWithin G r → ruleFrom g (length (G .classes)) (length (G .categories)) at ≡ To (after g at)
+  pub rule-passed : (G : Grammar) → RuleWithin G r → ruleFrom g (length (G .classes)) (length (G .categories)) at ≡ To (after g at)
   unfolding ruleFrom
   rule-passed G w =
       let l = length-inside in
@@ -126,23 +131,27 @@ module _ (g rest : List ℕ) (r : Rule) (at : ℕ) (e : drop at g ≡ encodeRule
       (bytes-passed (isSymbol (length (G .classes)) (length (G .categories))) _ g (r .right) rest (at + 2) right-next (omega arith)
       (λ d k. symbol-passed G (getD (r .right) d 0) (w .symbols d k)))
 
--- rules that stand at a position are passed over, and then come the others of P
+-- rules that stand at a position, all new, are passed over, and then come the others of P
 rules-past :
-    (G : Grammar) (g : List ℕ) (rs : List Rule) (rest : List ℕ) (P at : ℕ) → drop at g ≡ encodeRules rs ++ rest → ((p : ℕ) → p < length rs → RuleWithin G (getD rs p (rule 0 []))) → length rs ≤ P →
-    rulesFrom g (length (G .classes)) (length (G .categories)) P at ≡ rulesFrom g (length (G .classes)) (length (G .categories)) (P - length rs) (at + length (encodeRules rs))
+    (G : Grammar) (g : List ℕ) (earlier rs : List Rule) (rest : List ℕ) (P at : ℕ) → drop at g ≡ encodeRules rs ++ rest →
+    ((p : ℕ) → p < length rs → RuleWithin G (getD rs p (rule 0 []))) → ((p : ℕ) → p < length rs → isRepeated (getD rs p (rule 0 [])) (earlier ++ take p rs) ≡ false) → length rs ≤ P →
+    rulesFrom g (length (G .classes)) (length (G .categories)) earlier P at
+    ≡ rulesFrom g (length (G .classes)) (length (G .categories)) (earlier ++ rs) (P - length rs) (at + length (encodeRules rs))
 unfolding encodeRules
-rules-past G g [] rest P at e each l =
+rules-past G g earlier [] rest P at e each new l =
     let z : at + 0 ≡ at = omega arith in
     let m : P - 0 ≡ P = omega arith in
-    rw (z, m)
-rules-past G g (r ∷ rs) rest P at e each l =
+    rw (z, m, append-nil earlier)
+rules-past G g earlier (r ∷ rs) rest P at e each new l =
     let more = encodeRules rs ++ rest in
     let f : drop at g ≡ encodeRule r ++ more = e ∙ append-assoc (encodeRule r) (encodeRules rs) rest in
     let m : P - suc (length rs) ≡ P - 1 - length rs = omega arith in
     let p : at + length (encodeRule r ++ encodeRules rs) ≡ after g at + length (encodeRules rs) = omega (arith, length-append (encodeRule r) (encodeRules rs), length-is g more r at f) in
-    rules-step g (length (G .classes)) (length (G .categories)) P at (omega arith)
-    ∙ rw (rule-passed g more r at f G (each 0 (omega arith)), m, p)
-    (rules-past G g rs rest (P - 1) (after g at) (rule-after g more r at f) (λ i j. each (suc i) (omega arith)) (omega arith))
+    let first : isRepeated r earlier ≡ false = rw (append-nil earlier) at (new 0 (omega arith)) in
+    rules-step g (length (G .classes)) (length (G .categories)) earlier P at (omega arith)
+    ∙ rw (rule-passed g more r at f G (each 0 (omega arith)), rule-is g more r at f, first, m, p, ← append-assoc earlier (r ∷ []) rs)
+    (rules-past G g (earlier ++ (r ∷ [])) rs rest (P - 1) (after g at) (rule-after g more r at f) (λ i j. each (suc i) (omega arith))
+    (λ i j. rw (append-assoc earlier (r ∷ []) (take i rs)) (new (suc i) (omega arith))) (omega arith))
 
 rules-are : (g : List ℕ) (rs : List Rule) (rest : List ℕ) (at : ℕ) → drop at g ≡ encodeRules rs ++ rest → rulesAt g (length rs) at ≡ rs
 unfolding rulesAt encodeRules
@@ -199,14 +208,35 @@ module _ (G : Grammar) (P : ℕ) (g rest : List ℕ) (e : g ≡ bytesSoFar G P +
   rules-end =
       omega (arith, length-append (G .classes) ((length (G .categories) ∷ G .categories) ++ (P ∷ encodeRules (G .rules))), length-append (G .categories) (P ∷ encodeRules (G .rules)))
 
-  pub rules-section-past :
-      WithinLimits G → length (G .rules) ≤ P → P ≤ 128 →
-      rulesSection g (length (G .classes)) (length (G .categories)) (ruleCountAt G) ≡ rulesFrom g (length (G .classes)) (length (G .categories)) (P - length (G .rules)) (length (bytesSoFar G P))
+  rules-section-is : P ≤ 128 → rulesSection g (length (G .classes)) (length (G .categories)) (ruleCountAt G) ≡ rulesFrom g (length (G .classes)) (length (G .categories)) [] P (ruleCountAt G + 1)
   unfolding rulesSection
-  rules-section-past within fits high =
+  rules-section-is high =
       let inside : ruleCountAt G < length g = byte-inside g (encodeRules (G .rules) ++ rest) P (ruleCountAt G) rules-section-next in
       rw (lt-ltb (ruleCountAt G) (length g) inside, rule-count-is, le-leb P 128 high)
-      (rw rules-end at (rules-past G g (G .rules) rest P (ruleCountAt G + 1) rules-next (within .each) fits))
+
+  pub rules-section-past :
+      WithinLimits G → Distinct G → length (G .rules) ≤ P → P ≤ 128 →
+      rulesSection g (length (G .classes)) (length (G .categories)) (ruleCountAt G)
+      ≡ rulesFrom g (length (G .classes)) (length (G .categories)) (G .rules) (P - length (G .rules)) (length (bytesSoFar G P))
+  rules-section-past within distinct fits high =
+      rules-section-is high ∙ rw rules-end at (rules-past G g [] (G .rules) rest P (ruleCountAt G + 1) rules-next (within .each) (distinct-new G distinct) fits)
+
+  -- the sections, by what the section of rules gives
+  sections-to : WithinLimits G → (end : ℕ) → rulesSection g (length (G .classes)) (length (G .categories)) (ruleCountAt G) ≡ To end → sectionsOf g ≡ Accepted (sectionsAt g (1 + length (G .classes)) (ruleCountAt G) end)
+  sections-to within end rules =
+      let c = counts-are g (G .classes) (G .categories) _ sections-are in
+      sections-whole g
+      (1 + length (G .classes)) (classes-to g (G .classes) _ sections-are (classes-within within))
+      (ruleCountAt G) (categories-to g (G .classes) (G .categories) _ sections-are (categories-within within))
+      end (rw (c .0, c .1) rules)
+
+  pub sections-stop : WithinLimits G → (refusal : Refusal) → rulesSection g (length (G .classes)) (length (G .categories)) (ruleCountAt G) ≡ Stop refusal → sectionsOf g ≡ Refused refusal
+  sections-stop within refusal rules =
+      let c = counts-are g (G .classes) (G .categories) _ sections-are in
+      sections-third g
+      (1 + length (G .classes)) (classes-to g (G .classes) _ sections-are (classes-within within))
+      (ruleCountAt G) (categories-to g (G .classes) (G .categories) _ sections-are (categories-within within))
+      refusal (rw (c .0, c .1) rules)
 
 -- the counts and offsets of bytes that begin with an encoding
 abbrev sectionsEncoded : Grammar → List ℕ → Sections
@@ -214,17 +244,12 @@ sectionsEncoded G g = sectionsAt g (1 + length (G .classes)) (ruleCountAt G) (le
 
 -- bytes that begin with an encoding: its sections are read, and stand for the grammar
 module _ (G : Grammar) (g rest : List ℕ) (e : g ≡ encode G ++ rest) where
-  pub encoding-sections : WithinLimits G → sectionsOf g ≡ Accepted (sectionsEncoded G g)
+  pub encoding-sections : WithinLimits G → Distinct G → sectionsOf g ≡ Accepted (sectionsEncoded G g)
   unfolding encode
-  encoding-sections within =
+  encoding-sections within distinct =
       let P = length (G .rules) in
-      let parts = sections-are G P g rest e in
-      let c = counts-are g (G .classes) (G .categories) _ parts in
-      let rules = rules-section-past G P g rest e within (omega arith) (within .rules) ∙ rules-none g (length (G .classes)) (length (G .categories)) P P (length (bytesSoFar G P)) (omega arith) in
-      sections-whole g
-      (1 + length (G .classes)) (classes-to g (G .classes) _ parts (classes-within within))
-      (ruleCountAt G) (categories-to g (G .classes) (G .categories) _ parts (categories-within within))
-      (length (bytesSoFar G P)) (rw (c .0, c .1) rules)
+      sections-to G P g rest e within (length (bytesSoFar G P))
+      (rules-section-past G P g rest e within distinct (omega arith) (within .rules) ∙ rules-none g (length (G .classes)) (length (G .categories)) (G .rules) P P (length (bytesSoFar G P)) (omega arith))
 
   encoding-value : grammarOf g (sectionsEncoded G g) ≡ G
   unfolding encode grammarOf
@@ -238,40 +263,84 @@ module _ (G : Grammar) (g rest : List ℕ) (e : g ≡ encode G ++ rest) where
         rules-are g (G .rules) rest (ruleCountAt G + 1) (rules-next G P g rest e),
       )
 
-encoding-read : (G : Grammar) → WithinLimits G → (b : List ℕ) → b ≡ encode G → (s : Sections) × (readOf b ≡ Accepted s) × (grammarOf b s ≡ G)
-encoding-read G within b encoded =
+encoding-read : (G : Grammar) → WithinLimits G → Distinct G → (b : List ℕ) → b ≡ encode G → (s : Sections) × (readOf b ≡ Accepted s) × (grammarOf b s ≡ G)
+encoding-read G within distinct b encoded =
     let e : b ≡ encode G ++ [] = encoded ∙ sym (append-nil (encode G)) in
     let s = sectionsEncoded G b in
-    (s, read-whole b s (encoding-sections G b [] e within) (omega (arith, ap length encoded)), encoding-value G b [] e)
+    (s, read-whole b s (encoding-sections G b [] e within distinct) (omega (arith, ap length encoded)), encoding-value G b [] e)
 
--- the encoding of a grammar within the limits is accepted, and that grammar is read
-pub encoding-accepted : (G : Grammar) → WithinLimits G → (s : Sections) × (readOf (encode G) ≡ Accepted s) × (grammarOf (encode G) s ≡ G)
-encoding-accepted G within = encoding-read G within (encode G) refl
+-- the encoding of a grammar within the limits whose rules all differ is accepted, and that grammar is read
+pub encoding-accepted : (G : Grammar) → WithinLimits G → Distinct G → (s : Sections) × (readOf (encode G) ≡ Accepted s) × (grammarOf (encode G) s ≡ G)
+encoding-accepted G within distinct = encoding-read G within distinct (encode G) refl
 
--- bytes are accepted exactly when they are the encoding of a grammar within the limits
-pub accepted-iff : (b : List ℕ) → ((s : Sections) × (readOf b ≡ Accepted s)) ↔ ((G : Grammar) × WithinLimits G × (b ≡ encode G))
+-- bytes are accepted exactly when they are the encoding of a grammar within the limits whose rules all differ
+pub accepted-iff : (b : List ℕ) → ((s : Sections) × (readOf b ≡ Accepted s)) ↔ ((G : Grammar) × WithinLimits G × Distinct G × (b ≡ encode G))
 accepted-iff b = (
-  λ r. let e = accepted-encodes b (r .0) (r .1) in (grammarOf b (r .0), e .0, e .1),
-  λ r. let e = encoding-read (r .0) (r .1) b (r .2) in (e .0, e .1),
+  λ r. let e = accepted-encodes b (r .0) (r .1) in (grammarOf b (r .0), e .0, e .1, e .2),
+  λ r. let e = encoding-read (r .0) (r .1) (r .2) b (r .3) in (e .0, e .1),
 )
 
 -- the grammar of accepted bytes is one, the value read
-pub value-read : (b : List ℕ) (s : Sections) (G : Grammar) → readOf b ≡ Accepted s → b ≡ encode G → WithinLimits G → grammarOf b s ≡ G
-value-read b s G read encoded within =
-    let r = encoding-read G within b encoded in
+pub value-read : (b : List ℕ) (s : Sections) (G : Grammar) → readOf b ≡ Accepted s → b ≡ encode G → WithinLimits G → Distinct G → grammarOf b s ≡ G
+value-read b s G read encoded within distinct =
+    let r = encoding-read G within distinct b encoded in
     let both : Accepted s ≡ Accepted (r .0) = sym read ∙ r .1 in
     let same : s ≡ r .0 = cc in
     rw same (r .2)
 
 -- of an encoding T, N and P are told
-pub encoding-told : (G : Grammar) → WithinLimits G → readingTold (readOf (encode G)) ≡ answered (length (G .classes) ∷ length (G .categories) ∷ length (G .rules) ∷ [])
-encoding-told G within =
-    let r = encoding-accepted G within in
+pub encoding-told : (G : Grammar) → WithinLimits G → Distinct G → readingTold (readOf (encode G)) ≡ answered (length (G .classes) ∷ length (G .categories) ∷ length (G .rules) ∷ [])
+encoding-told G within distinct =
+    let r = encoding-accepted G within distinct in
     let read = accepted (encode G) (r .0) (r .1) .0 in
     let classes = rw (r .2) at (class-count (encode G) (r .0) read) in
     let categories = rw (r .2) at (category-count (encode G) (r .0) read) in
     let rules = rw (r .2) at (rule-count (encode G) (r .0) read) in
     rw (r .1, classes, categories, rules)
+
+-- rules that stand at a position, each within the limits: they are passed over, or one repeats an earlier one
+rules-or-repeat :
+    (G : Grammar) (g : List ℕ) (earlier rs : List Rule) (rest : List ℕ) (at : ℕ) → drop at g ≡ encodeRules rs ++ rest → ((p : ℕ) → p < length rs → RuleWithin G (getD rs p (rule 0 []))) →
+    (rulesFrom g (length (G .classes)) (length (G .categories)) earlier (length rs) at ≡ To (at + length (encodeRules rs)))
+    ⊎ ((place : ℕ) × (rulesFrom g (length (G .classes)) (length (G .categories)) earlier (length rs) at ≡ Stop (RuleRepeated place)))
+unfolding encodeRules rulesFrom
+rules-or-repeat G g earlier [] rest at e each = let z : at + 0 ≡ at = omega arith in inl (rw z)
+rules-or-repeat G g earlier (r ∷ rs) rest at e each =
+    let more = encodeRules rs ++ rest in
+    let f : drop at g ≡ encodeRule r ++ more = e ∙ append-assoc (encodeRule r) (encodeRules rs) rest in
+    let p : at + length (encodeRule r ++ encodeRules rs) ≡ after g at + length (encodeRules rs) = omega (arith, length-append (encodeRule r) (encodeRules rs), length-is g more r at f) in
+    rw (rule-passed g more r at f G (each 0 (omega arith)), p)
+    (go (isRepeated (standing g at) earlier) (rules-or-repeat G g (earlier ++ (standing g at ∷ [])) rs rest (after g at) (rule-after g more r at f) (λ i j. each (suc i) (omega arith))))
+  where
+    go : (same : Bool) {later : Pass} {end : ℕ} → (later ≡ To end) ⊎ ((place : ℕ) × (later ≡ Stop (RuleRepeated place))) →
+        (must (not same) (RuleRepeated at) later ≡ To end) ⊎ ((place : ℕ) × (must (not same) (RuleRepeated at) later ≡ Stop (RuleRepeated place)))
+    go true x = inr (at, refl)
+    go false x = x
+
+-- so an encoding within the limits is refused by 14 alone
+pub encoding-refused : (G : Grammar) → WithinLimits G → (row : Row) → readingTold (readOf (encode G)) ≡ refused row → row .number ≡ 14
+unfolding encode
+encoding-refused G within row told = go (rules-or-repeat G g [] (G .rules) [] (ruleCountAt G + 1) (rules-next G P g [] e) (within .each))
+  where
+    P : ℕ
+    P = length (G .rules)
+
+    g : List ℕ
+    g = bytesSoFar G P
+
+    e : g ≡ g ++ []
+    e = sym (append-nil g)
+
+    go : (rulesFrom g (length (G .classes)) (length (G .categories)) [] P (ruleCountAt G + 1) ≡ To (ruleCountAt G + 1 + length (encodeRules (G .rules))))
+        ⊎ ((place : ℕ) × (rulesFrom g (length (G .classes)) (length (G .categories)) [] P (ruleCountAt G + 1) ≡ Stop (RuleRepeated place))) →
+        row .number ≡ 14
+    go (inl x) =
+        let sections = sections-to G P g [] e within _ (rules-section-is G P g [] e (within .rules) ∙ x) in
+        let read = read-whole g _ sections (omega (arith, rules-end G P g [] e)) in
+        absurd (let z : _≡_ {A = ℕ} 0 1 = cc in omega arith)
+    go (inr x) =
+        let read = read-refused g _ (sections-stop G P g [] e within _ (rules-section-is G P g [] e (within .rules) ∙ x .1)) in
+        cc
 
 -- numbers that are bytes
 abbrev Bytes : List ℕ → Type 0

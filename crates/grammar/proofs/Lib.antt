@@ -1,4 +1,8 @@
+pub mod RepeatLaws
 pub mod ReadingLaws
+pub mod WordLaws
+pub mod ChainLaws
+pub mod Kept
 pub mod Parts
 pub mod Accepted
 pub mod Encoded
@@ -8,3 +12,4 @@ pub mod Growing
 pub mod Stopping
 pub mod Refusals
 pub mod Begins
+pub mod RepeatExamples

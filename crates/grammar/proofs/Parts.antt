@@ -1,9 +1,9 @@
--- A part of the bytes: `count` of them, from a position.
-use Prim.Native.Nat.{ℕ, _+_, _≤_, _<_}
-use mathlib.Core.Path.{_≡_}
+-- A part of the bytes: `count` of them, from a position. And a table of zeros.
+use Prim.Native.Nat.{ℕ, zero, suc, _+_, _≤_, _<_}
+use mathlib.Core.Path.{_≡_, refl}
 use mathlib.Core.List.{List}
 use native.Mathlib.Omega.{arith}
-use lib.ListN.{take, drop, length, getD, length-drop}
+use lib.ListN.{take, drop, length, getD, replicate, length-drop}
 use lib.Seq.{length-take-le, getD-take, getD-drop}
 use Rattle.grammar.specs.Reading.{byte}
 
@@ -13,3 +13,9 @@ module _ (g : List ℕ) (count at : ℕ) where
 
   pub part-at : (i : ℕ) → i < count → getD (take count (drop at g)) i 0 ≡ byte g (at + i)
   part-at i l = rw (getD-take, getD-drop)
+
+-- each entry of a table of zeros is 0, and so is each past it
+pub zeros : (n q : ℕ) → _≡_ {A = ℕ} (getD (replicate n 0) q 0) 0
+zeros zero q = refl
+zeros (suc n) zero = refl
+zeros (suc n) (suc q) = zeros n q

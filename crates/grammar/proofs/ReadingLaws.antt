@@ -1,17 +1,20 @@
 -- Laws of `specs/Reading.antt`: one step of each definition, by the tests that led there.
 use Prim.Native.Nat.{ℕ, zero, suc, _+_, _-_, _≤_, _<_}
 use mathlib.Core.Path.{_≡_, refl, ap, _∙_}
-use mathlib.Core.Bool.{Bool, true, false, cond}
-use mathlib.Core.List.{List}
+use mathlib.Core.Bool.{Bool, true, false, not, cond}
+use mathlib.Core.List.{List, [], _∷_, _++_}
 use native.Mathlib.Omega.{arith}
 use lib.ListN.{length}
 use borrow.Author.Tests.{lt-ltb, le-ltb, ltb-true, leb-true}
 use Rattle.refusals.specs.declared.Refusal.{Refusal}
-use Rattle.refusals.specs.declared.Refusal.the-variants.{GrammarEndsEarly, BytesAfterRules}
+use Rattle.refusals.specs.declared.Refusal.the-variants.{GrammarEndsEarly, RuleRepeated, BytesAfterRules}
+use Rattle.derivation.specs.Grammar.{Rule}
 use Rattle.grammar.specs.declared.reading.Sections.{Sections}
 use Rattle.grammar.specs.declared.reading.Pass.{Pass}
 use Rattle.grammar.specs.declared.reading.Pass.the-variants.{To, Stop}
 use Rattle.grammar.specs.declared.reading.Reading.the-variants.{Accepted, Refused}
+use Rattle.grammar.specs.Standing.{standing}
+use Rattle.grammar.specs.Repeats.{isRepeated}
 use Rattle.grammar.specs.Reading.{byte, have, must, thenRead, eachFrom, flagsFrom, ruleFrom, rulesFrom, flagsSection, rulesSection, sectionsAt, sectionsOf, readOf}
 
 -- a number above 0 is one more than the number before it
@@ -49,24 +52,31 @@ module _ (ok : ℕ → Bool) (fault : ℕ → Refusal) (g : List ℕ) where
       each-more count at (omega arith) (omega arith) (rw z at (good 0 (omega arith)))
       ∙ rw (p, m) (each-past k (count - 1) (at + 1) (omega arith) (omega arith) (λ i j. let s : at + 1 + i ≡ at + suc i = omega arith in rw s (good (suc i) (omega arith))))
 
-module _ (g : List ℕ) (t n : ℕ) where
-  pub rules-step : (count at : ℕ) → 0 < count → rulesFrom g t n count at ≡ thenRead (ruleFrom g t n at) (λ next. rulesFrom g t n (count - 1) next)
+module _ (g : List ℕ) (t n : ℕ) (earlier : List Rule) where
+  pub rules-step :
+      (count at : ℕ) → 0 < count →
+      rulesFrom g t n earlier count at
+      ≡ thenRead (ruleFrom g t n at) (λ next. must (not (isRepeated (standing g at) earlier)) (RuleRepeated at) (rulesFrom g t n (earlier ++ (standing g at ∷ [])) (count - 1) next))
   unfolding rulesFrom
-  rules-step count at h = ap (λ (k : ℕ). rulesFrom g t n k at) (one-more count h)
+  rules-step count at h = ap (λ (k : ℕ). rulesFrom g t n earlier k at) (one-more count h)
 
   -- p rules of count were read, and none is left
-  pub rules-none : (count p at : ℕ) → count ≤ p → rulesFrom g t n (count - p) at ≡ To at
+  pub rules-none : (count p at : ℕ) → count ≤ p → rulesFrom g t n earlier (count - p) at ≡ To at
   unfolding rulesFrom
   rules-none count p at h = let z : count - p ≡ 0 = omega arith in rw z
 
-  -- rule p, the next one, stops the reading, or leads on
-  pub rules-stop : (count p at : ℕ) (refusal : Refusal) → p < count → ruleFrom g t n at ≡ Stop refusal → rulesFrom g t n (count - p) at ≡ Stop refusal
+  -- rule p, the next one, stops the reading, repeats an earlier one, or leads on
+  pub rules-stop : (count p at : ℕ) (refusal : Refusal) → p < count → ruleFrom g t n at ≡ Stop refusal → rulesFrom g t n earlier (count - p) at ≡ Stop refusal
   rules-stop count p at refusal h e = rules-step (count - p) at (omega arith) ∙ rw e
 
-  pub rules-more : (count p at next : ℕ) → p < count → ruleFrom g t n at ≡ To next → rulesFrom g t n (count - p) at ≡ rulesFrom g t n (count - (p + 1)) next
-  rules-more count p at next h e =
-      let z : count - (p + 1) ≡ count - p - 1 = omega arith in
-      rules-step (count - p) at (omega arith) ∙ rw (e, z)
+  module _ (count p at next : ℕ) (h : p < count) (e : ruleFrom g t n at ≡ To next) where
+    pub rules-repeat : isRepeated (standing g at) earlier ≡ true → rulesFrom g t n earlier (count - p) at ≡ Stop (RuleRepeated at)
+    rules-repeat same = rules-step (count - p) at (omega arith) ∙ rw (e, same)
+
+    pub rules-more : isRepeated (standing g at) earlier ≡ false → rulesFrom g t n earlier (count - p) at ≡ rulesFrom g t n (earlier ++ (standing g at ∷ [])) (count - (p + 1)) next
+    rules-more new =
+        let z : count - (p + 1) ≡ count - p - 1 = omega arith in
+        rules-step (count - p) at (omega arith) ∙ rw (e, new, z)
 
 -- what a reading that goes on says: the test held
 pub must-to : (ok : Bool) (p : Pass) (refusal : Refusal) (next : ℕ) → cond ok p (Stop refusal) ≡ To next → (ok ≡ true) × (p ≡ To next)
@@ -95,7 +105,7 @@ flags-section-to g most at next e =
 pub record RulesSection (g : List ℕ) (t n at next : ℕ) : Type 0 where
   pub inside : at < length g
   pub high : byte g at ≤ 128
-  pub rules : rulesFrom g t n (byte g at) (at + 1) ≡ To next
+  pub rules : rulesFrom g t n [] (byte g at) (at + 1) ≡ To next
 
 pub rules-section-to : (g : List ℕ) (t n at next : ℕ) → rulesSection g t n at ≡ To next → RulesSection g t n at next
 unfolding rulesSection

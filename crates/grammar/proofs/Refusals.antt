@@ -14,18 +14,19 @@ use Rattle.grammar.specs.declared.reading.Reading.the-variants.{Accepted
 use Rattle.grammar.specs.Reading.{readOf}
 use Rattle.grammar.specs.Told.{readingTold}
 use Rattle.grammar.specs.Limits.{WithinLimits}
+use Rattle.grammar.specs.Repeats.{Distinct}
 use Rattle.grammar.specs.Encoding.{encode}
-use Rattle.grammar.specs.Beginning.{NextByte, countBetween, flagByte, leftOf, symbolOf, noMore, numberOf, Beginning, wholeGrammar, Refusing, endsEarly, notRight}
+use Rattle.grammar.specs.Beginning.{NextByte, countBetween, flagByte, leftOf, symbolOf, noMore, numberOf, Beginning, wholeGrammar, Refusing, endsEarly, notRight, ruleRepeated}
 use Rattle.grammar.proofs.Encoding.{accepted-iff}
-use Rattle.grammar.proofs.Growing.{Judged, allRight, firstWrong, judged}
-use Rattle.grammar.proofs.Stopping.{Fault, missing, other, refusalOf, faultRefusal, fault-refused}
+use Rattle.grammar.proofs.Growing.{Judged, allRight, firstWrong, firstAgain, judged}
+use Rattle.grammar.proofs.Stopping.{Fault, missing, other, refusalOf, faultRefusal, fault-refused, repeat-refused}
 
-whole-encodes : {g : List ℕ} → Beginning g noMore → (G : Grammar) × WithinLimits G × (g ≡ encode G)
-whole-encodes (wholeGrammar {G} within) = (G, within, refl)
+whole-encodes : {g : List ℕ} → Beginning g noMore → (G : Grammar) × WithinLimits G × Distinct G × (g ≡ encode G)
+whole-encodes (wholeGrammar {G} within distinct) = (G, within, distinct, refl)
 
 -- bytes are accepted exactly when they are right to their end, and no more may follow
 pub accepted-whole : (g : List ℕ) → ((s : Sections) × (readOf g ≡ Accepted s)) ↔ Beginning g noMore
-accepted-whole g = (λ a. let r = accepted-iff g .0 a in rw (r .2) (wholeGrammar (r .1)), λ b. accepted-iff g .1 (whole-encodes b))
+accepted-whole g = (λ a. let r = accepted-iff g .0 a in rw (r .3) (wholeGrammar (r .1) (r .2)), λ b. accepted-iff g .1 (whole-encodes b))
 
 -- what is told of a beginning and a fault
 fault-told : {b : List ℕ} {next : NextByte} → Beginning b next → (rest : List ℕ) → Fault next rest → readingTold (readOf (b ++ rest)) ≡ refused (rowOf (faultRefusal next (length b) rest))
@@ -41,6 +42,7 @@ refusal-row noMore at = refl
 refusing-told : {g : List ℕ} {row : Row} → Refusing g row → readingTold (readOf g) ≡ refused row
 refusing-told (endsEarly {b} s more) = rw (append-nil b) at (fault-told s [] (missing more))
 refusing-told (notRight {b} {next} s y bad rest) = fault-told s (y ∷ rest) (other y bad rest) ∙ ap (λ (r : Row). refused r) (refusal-row next (length b))
+refusing-told (ruleRepeated u within same rest) = ap readingTold (repeat-refused u within same rest)
 
 no-more? : (next : NextByte) → Dec (next ≡ noMore)
 no-more? (countBetween low high) = no (λ e. let z : _≡_ {A = ℕ} 0 1 = cc in omega arith)
@@ -60,6 +62,7 @@ whole-or-refused g = go (judged g)
     go : {b : List ℕ} → Judged b → Beginning b noMore ⊎ ((row : Row) × Refusing b row)
     go (allRight {next = next} s) = by s (no-more? next)
     go (firstWrong s y bad rest) = inr (_, notRight s y bad rest)
+    go (firstAgain u within same rest) = inr (_, ruleRepeated u within same rest)
 
 -- none are both
 pub whole-not-refused : {g : List ℕ} {row : Row} → Refusing g row → ¬ Beginning g noMore

@@ -1,4 +1,4 @@
--- The reading stops where a beginning ends, if there the next byte is missing or not right.
+-- The reading stops where a beginning ends, if there the next byte is missing or not right, and at a whole rule that repeats one.
 use Prim.Native.Nat.{ℕ, suc, _+_, _-_, _≤_, _<_}
 use mathlib.Core.Path.{_≡_, refl, ap, sym, _∙_}
 use mathlib.Core.Logic.{_≢_}
@@ -10,14 +10,16 @@ use lib.Seq.{drop-append-seam}
 use lib.Dec.{ltb, leb}
 use borrow.Author.Tests.{ltb-true, leb-true, lt-ltb, le-ltb, le-leb}
 use Rattle.refusals.specs.declared.Refusal.{Refusal}
-use Rattle.refusals.specs.declared.Refusal.the-variants.{GrammarEndsEarly, CountOutsideLimits, FlagAboveOne, NotInGrammar, BytesAfterRules}
-use Rattle.derivation.specs.Grammar.{Grammar, rule}
+use Rattle.refusals.specs.declared.Refusal.the-variants.{GrammarEndsEarly, CountOutsideLimits, FlagAboveOne, NotInGrammar, RuleRepeated, BytesAfterRules}
+use Rattle.derivation.specs.Grammar.{Rule, Grammar, rule}
 use Rattle.grammar.specs.declared.reading.Pass.{Pass}
 use Rattle.grammar.specs.declared.reading.Pass.the-variants.{Stop}
 use Rattle.grammar.specs.declared.reading.Reading.the-variants.{Refused}
 use Rattle.grammar.specs.Reading.{byte, have, must, eachFrom, isFlag, isSymbol, flagsFrom, ruleFrom, flagsSection, rulesSection, readOf}
 use Rattle.grammar.specs.Limits.{RuleWithin}
-use Rattle.grammar.specs.Encoding.{encode}
+use Rattle.grammar.specs.Standing.{standing, after}
+use Rattle.grammar.specs.Repeats.{isRepeated, Repeats}
+use Rattle.grammar.specs.Encoding.{encodeRule, encode}
 use Rattle.grammar.specs.Beginning.{
   NextByte,
   countBetween,
@@ -40,7 +42,8 @@ use Rattle.grammar.specs.Beginning.{
   someSymbols,
   wholeGrammar,
 }
-use Rattle.grammar.proofs.ReadingLaws.{rules-stop, sections-first, sections-second, sections-third, read-refused, read-more}
+use Rattle.grammar.proofs.RepeatLaws.{repeats-one}
+use Rattle.grammar.proofs.ReadingLaws.{rules-stop, rules-repeat, sections-first, sections-second, sections-third, read-refused, read-more}
 use Rattle.grammar.proofs.Encoded.{symbol-within}
 use Rattle.grammar.proofs.Encoding.{
   byte-inside,
@@ -50,15 +53,15 @@ use Rattle.grammar.proofs.Encoding.{
   bytes-inside,
   bytes-past,
   symbol-passed,
+  rule-is,
+  rule-passed,
   classes-to,
   classes-next,
   categories-to,
   categories-next,
   counts-are,
-  classes-within,
-  categories-within,
-  sections-are,
   rules-section-past,
+  sections-stop,
   encoding-sections,
 }
 
@@ -190,9 +193,10 @@ rule-stopped :
     {G : Grammar} {P : ℕ} → RulesSoFar G P → (g rest : List ℕ) → g ≡ bytesSoFar G P ++ rest → (refusal : Refusal) →
     ruleFrom g (length (G .classes)) (length (G .categories)) (length (bytesSoFar G P)) ≡ Stop refusal → readOf g ≡ Refused refusal
 rule-stopped {G} {P} u g rest e refusal s =
-    let w = u .within in
-    categories-stopped g (G .classes) (G .categories) _ (sections-are G P g rest e) (classes-within w) (categories-within w) refusal
-    (rules-section-past G P g rest e w (omega arith) (u .high) ∙ rules-stop g (length (G .classes)) (length (G .categories)) P (length (G .rules)) (length (bytesSoFar G P)) refusal (u .fewer) s)
+    read-refused g refusal
+    (sections-stop G P g rest e (u .within) refusal
+    (rules-section-past G P g rest e (u .within) (u .distinct) (omega (arith, u .fewer)) (u .high)
+    ∙ rules-stop g (length (G .classes)) (length (G .categories)) (G .rules) P (length (G .rules)) (length (bytesSoFar G P)) refusal (u .fewer) s))
 
 -- what stands after a beginning
 module _ (g b rest : List ℕ) (e : g ≡ b ++ rest) where
@@ -247,7 +251,21 @@ fault-refused (someSymbols {G} {P} {A} {k} {s} u w l m) rest bad =
     let e : g ≡ b ++ next = append-assoc b (A ∷ (k ∷ s)) rest in
     placed g rest (symbolOf G) (length b + 2 + length s) (omega (arith, length-append b (A ∷ (k ∷ s))))
     (rule-stopped u g next e _ (symbol-stopped G g (length b) A k s rest (beginning-after g b next e) w l m bad))
-fault-refused (wholeGrammar {G} w) x (missing more) = absurd (more refl)
-fault-refused (wholeGrammar {G} w) x (other y wrong rest) =
+fault-refused (wholeGrammar {G} w d) x (missing more) = absurd (more refl)
+fault-refused (wholeGrammar {G} w d) x (other y wrong rest) =
     let g = encode G ++ (y ∷ rest) in
-    read-more g _ (encoding-sections G g (y ∷ rest) refl w) (omega (arith, length-append (encode G) (y ∷ rest)))
+    read-more g _ (encoding-sections G g (y ∷ rest) refl w d) (omega (arith, length-append (encode G) (y ∷ rest)))
+
+-- the reading of rules so far, a whole rule that is one of them, and anything
+pub repeat-refused :
+    {G : Grammar} {P : ℕ} {r : Rule} → RulesSoFar G P → RuleWithin G r → Repeats G r → (rest : List ℕ) →
+    readOf (bytesSoFar G P ++ (encodeRule r ++ rest)) ≡ Refused (RuleRepeated (length (bytesSoFar G P)))
+repeat-refused {G} {P} {r} u v same rest =
+    let b = bytesSoFar G P in
+    let g = b ++ (encodeRule r ++ rest) in
+    let stands = beginning-after g b (encodeRule r ++ rest) refl in
+    let repeated : isRepeated (standing g (length b)) (G .rules) ≡ true = rw (rule-is g rest r (length b) stands) (repeats-one r (G .rules) (same .number) (same .below) (same .same)) in
+    read-refused g _
+    (sections-stop G P g (encodeRule r ++ rest) refl (u .within) _
+    (rules-section-past G P g (encodeRule r ++ rest) refl (u .within) (u .distinct) (omega (arith, u .fewer)) (u .high)
+    ∙ rules-repeat g (length (G .classes)) (length (G .categories)) (G .rules) P (length (G .rules)) (length b) (after g (length b)) (u .fewer) (rule-passed g rest r (length b) stands G v) repeated))

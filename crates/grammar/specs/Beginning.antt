@@ -5,9 +5,10 @@ use mathlib.Core.Logic.{_≢_}
 use mathlib.Core.List.{List, [], _∷_, _++_}
 use lib.ListN.{length}
 use Rattle.refusals.specs.declared.Row.{Row}
-use Rattle.derivation.specs.Grammar.{Grammar, rule}
+use Rattle.derivation.specs.Grammar.{Rule, Grammar, rule}
 use Rattle.grammar.specs.Limits.{FlagsWithin, SymbolWithin, RuleWithin, WithinLimits}
-use Rattle.grammar.specs.Encoding.{encodeRules, encode}
+use Rattle.grammar.specs.Repeats.{Repeats, Distinct}
+use Rattle.grammar.specs.Encoding.{encodeRule, encodeRules, encode}
 
 -- what the next byte must be: a count within its limits, a flag, a left category or a symbol of a grammar; or none may come
 pub data NextByte : Type 0 where
@@ -38,9 +39,10 @@ pub record FlagsSoFar (most many : ℕ) (flags : List ℕ) : Type 0 where
   pub high : many ≤ most
   pub within : FlagsWithin flags
 
--- rules so far: P are to stand, at most 128, and those of G stand, which are fewer
+-- rules so far: P are to stand, at most 128, and those of G stand, which are fewer and all differ
 pub record RulesSoFar (G : Grammar) (P : ℕ) : Type 0 where
   pub within : WithinLimits G
+  pub distinct : Distinct G
   pub fewer : length (G .rules) < P
   pub high : P ≤ 128
 
@@ -77,8 +79,8 @@ pub data Beginning : List ℕ → NextByte → Type 0 where
   someSymbols : {G : Grammar} {P A k : ℕ} {s : List ℕ} →
       RulesSoFar G P → RuleWithin G (rule A s) → length s < k → k ≤ 8 →
       Beginning (bytesSoFar G P ++ (A ∷ (k ∷ s))) (symbolOf G)
-  -- the bytes of a whole grammar: none may come
-  wholeGrammar : {G : Grammar} → WithinLimits G → Beginning (encode G) noMore
+  -- the bytes of a whole grammar whose rules all differ: none may come
+  wholeGrammar : {G : Grammar} → WithinLimits G → Distinct G → Beginning (encode G) noMore
 
 -- the number and place that refuse the bytes
 pub data Refusing : List ℕ → Row → Type 0 where
@@ -90,8 +92,12 @@ pub data Refusing : List ℕ → Row → Type 0 where
   notRight : {b : List ℕ} {next : NextByte} →
       Beginning b next → (y : ℕ) → ¬ RightByte next y → (rest : List ℕ) →
       Refusing (b ++ (y ∷ rest)) (record { number = numberOf next; place = length b })
+  -- rules so far, and then a whole rule that is one of them, whatever follows: the place is that of its left category
+  ruleRepeated : {G : Grammar} {P : ℕ} {r : Rule} →
+      RulesSoFar G P → RuleWithin G r → Repeats G r → (rest : List ℕ) →
+      Refusing (bytesSoFar G P ++ (encodeRule r ++ rest)) (record { number = 14; place = length (bytesSoFar G P) })
 
--- the beginnings by `encode` alone: the encoding of a grammar within the limits begins so
+-- by `encode` alone: the encoding of a grammar within the limits begins so, be its rules different or not
 pub record EncodingBegins (b : List ℕ) : Type 0 where
   pub rest : List ℕ
   pub grammar : Grammar

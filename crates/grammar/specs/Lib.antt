@@ -1,3 +1,5 @@
+pub mod Standing
+pub mod Repeats
 pub mod Reading
 pub mod Told
 pub mod Value

@@ -1,20 +1,20 @@
 -- How grammar bytes are read: byte by byte, the first fault met is reported. A position is an offset in the whole list.
 use Prim.Native.Nat.{ℕ, zero, suc, _+_, _-_}
-use mathlib.Core.List.{List}
-use mathlib.Core.Bool.{Bool, cond}
-use lib.ListN.{length, getD}
+use mathlib.Core.List.{List, [], _∷_, _++_}
+use mathlib.Core.Bool.{Bool, not, cond}
+use lib.ListN.{length}
 use lib.Dec.{ltb, leb}
 use Rattle.refusals.specs.declared.Refusal.{Refusal}
-use Rattle.refusals.specs.declared.Refusal.the-variants.{GrammarEndsEarly, CountOutsideLimits, FlagAboveOne, NotInGrammar, BytesAfterRules}
+use Rattle.refusals.specs.declared.Refusal.the-variants.{GrammarEndsEarly, CountOutsideLimits, FlagAboveOne, NotInGrammar, RuleRepeated, BytesAfterRules}
+use Rattle.derivation.specs.Grammar.{Rule}
 use Rattle.grammar.specs.declared.reading.Sections.{Sections}
 use Rattle.grammar.specs.declared.reading.Pass.{Pass}
 use Rattle.grammar.specs.declared.reading.Pass.the-variants.{To, Stop}
 use Rattle.grammar.specs.declared.reading.Reading.{Reading}
 use Rattle.grammar.specs.declared.reading.Reading.the-variants.{Accepted, Refused}
-
--- the byte at a position
-abbrev pub byte : List ℕ → ℕ → ℕ
-byte g at = getD g at 0
+use Rattle.grammar.specs.Standing.{standing}
+use Rattle.grammar.specs.Repeats.{isRepeated}
+pub use Rattle.grammar.specs.Standing.{byte}
 
 -- the bytes end early where none stands at the position
 abbrev pub have : List ℕ → ℕ → Pass → Pass
@@ -56,9 +56,13 @@ ruleFrom g t n at =
     (must (leb (byte g (at + 1)) 8) (CountOutsideLimits (at + 1))
     (symbolsFrom g t n (byte g (at + 1)) (at + 2)))))
 
-unfoldable pub rulesFrom : List ℕ → ℕ → ℕ → ℕ → ℕ → Pass
-rulesFrom g t n zero at = To at
-rulesFrom g t n (suc count) at = thenRead (ruleFrom g t n at) (λ next. rulesFrom g t n count next)
+-- as many rules as `count`, none of which repeats an earlier one: each is tested when it is whole, before the next is looked at
+unfoldable pub rulesFrom : List ℕ → ℕ → ℕ → List Rule → ℕ → ℕ → Pass
+rulesFrom g t n earlier zero at = To at
+rulesFrom g t n earlier (suc count) at =
+    thenRead (ruleFrom g t n at) (λ next.
+    must (not (isRepeated (standing g at) earlier)) (RuleRepeated at)
+    (rulesFrom g t n (earlier ++ (standing g at ∷ [])) count next))
 
 -- a section of flags: its count, 1 to `most`, and as many flags
 unfoldable pub flagsSection : List ℕ → ℕ → ℕ → Pass
@@ -73,7 +77,7 @@ unfoldable pub rulesSection : List ℕ → ℕ → ℕ → ℕ → Pass
 rulesSection g t n at =
     have g at
     (must (leb (byte g at) 128) (CountOutsideLimits at)
-    (rulesFrom g t n (byte g at) (at + 1)))
+    (rulesFrom g t n [] (byte g at) (at + 1)))
 
 abbrev pub onward : Pass → (ℕ → Reading) → Reading
 onward (To at) go = go at

@@ -4,22 +4,17 @@ use mathlib.Core.Path.{_≡_}
 use mathlib.Core.Bool.{true}
 use mathlib.Core.List.{List, [], _∷_}
 use lib.ListN.{length, take, drop}
-use Rattle.derivation.specs.Grammar.{Rule, Grammar, rule, ruleAt}
+use Rattle.derivation.specs.Grammar.{Rule, Grammar, ruleAt}
 use Rattle.grammar.specs.declared.reading.Sections.{Sections}
 use Rattle.grammar.specs.declared.reading.Reading.the-variants.{Accepted}
-use Rattle.grammar.specs.Reading.{byte, isSymbol, sectionsOf}
+use Rattle.grammar.specs.Standing.{byte}
+unfoldable pub use Rattle.grammar.specs.Standing.{standing}
+pub use Rattle.grammar.specs.Standing.{after}
+use Rattle.grammar.specs.Reading.{isSymbol, sectionsOf}
 
 -- the bytes begin with three sections, which have these counts and offsets
 abbrev pub Sectioned : List ℕ → Sections → Type 0
 Sectioned g s = sectionsOf g ≡ Accepted s
-
--- the rule whose left category stands at a position
-unfoldable pub standing : List ℕ → ℕ → Rule
-standing g at = rule (byte g at) (take (byte g (at + 1)) (drop (at + 2) g))
-
--- the position past that rule
-abbrev pub after : List ℕ → ℕ → ℕ
-after g at = at + 2 + byte g (at + 1)
 
 -- as many rules as `count`, from a position
 unfoldable pub rulesAt : List ℕ → ℕ → ℕ → List Rule

@@ -29,7 +29,7 @@ abbrev pub marksChecks : (g line words depths marks : List ℕ) → Checks
 marksChecks g line words depths marks = checksOf g line Nothing words depths check.Passed (marksRoom line marks)
 
 pub data MarksOutcome (g line words depths marks : List ℕ) (answer : MarksAnswer) (words′ depths′ marks′ : List ℕ) : Type 0 where
-  -- 1 to 9: the first refusal is the answer, and no lent memory changes
+  -- 1 to 9 and 14: the first refusal is the answer, and no lent memory changes
   turnedDown : {refusal : Refusal} →
       early (marksChecks g line words depths marks) ≡ check.Refused refusal →
       answer ≡ answers.Refused refusal → words′ ≡ words → depths′ ≡ depths → marks′ ≡ marks →

@@ -1,5 +1,4 @@
 -- No refusal has number 12.
-use Prim.Native.Nat.{ℕ}
 use mathlib.Core.Path.{_≡_}
 use native.Mathlib.Omega.{arith}
 use Rattle.refusals.specs.declared.Refusal.{Refusal}
@@ -11,6 +10,7 @@ twelve-unused (refusal.GrammarEndsEarly length) e = omega arith
 twelve-unused (refusal.CountOutsideLimits at) e = omega arith
 twelve-unused (refusal.FlagAboveOne at) e = omega arith
 twelve-unused (refusal.NotInGrammar at) e = omega arith
+twelve-unused (refusal.RuleRepeated at) e = omega arith
 twelve-unused (refusal.BytesAfterRules at) e = omega arith
 twelve-unused refusal.LineTooLong e = omega arith
 twelve-unused (refusal.TokenNoClass token) e = omega arith

@@ -9,7 +9,7 @@ andThen (Refused refusal) next = Refused refusal
 
 -- what each check of a question finds by itself; a question without that check has Passed
 pub record Checks : Type 0 where
-  -- 1 to 4 in reading order, then 5
+  -- 1 to 4 and 14 in reading order, then 5
   pub grammar : Check
   -- 6, then 7
   pub line : Check
@@ -22,7 +22,7 @@ pub record Checks : Type 0 where
   -- 11
   pub room : Check
 
--- the refusals that change no lent memory: 1 to 9
+-- the refusals that change no lent memory: 1 to 9 and 14
 abbrev pub early : Checks → Check
 early c = andThen (c .grammar) (andThen (c .line) (andThen (c .question) (c .memory)))
 

@@ -7,6 +7,7 @@ use Rattle.refusals.specs.declared.Refusal.the-variants.{
   CountOutsideLimits,
   FlagAboveOne,
   NotInGrammar,
+  RuleRepeated,
   BytesAfterRules,
   LineTooLong,
   TokenNoClass,
@@ -30,6 +31,7 @@ rowOf (GrammarEndsEarly length) = no 1 length
 rowOf (CountOutsideLimits at) = no 2 at
 rowOf (FlagAboveOne at) = no 3 at
 rowOf (NotInGrammar at) = no 4 at
+rowOf (RuleRepeated at) = no 14 at
 rowOf (BytesAfterRules at) = no 5 at
 rowOf LineTooLong = no 6 63
 rowOf (TokenNoClass token) = no 7 token

@@ -10,6 +10,8 @@ pub enum Refusal {
     FlagAboveOne { at: usize },
     // A left category or a symbol is not in the grammar.
     NotInGrammar { at: usize },
+    // A rule equals an earlier one; its left category stands there.
+    RuleRepeated { at: usize },
     BytesAfterRules { at: usize },
     LineTooLong,
     // The first token that is no class of the grammar.
@@ -57,6 +59,10 @@ pub fn row_of(refusal: Refusal) -> Row
         },
         Refusal::NotInGrammar { at } => Row {
             number: 4,
+            place: at,
+        },
+        Refusal::RuleRepeated { at } => Row {
+            number: 14,
             place: at,
         },
         Refusal::BytesAfterRules { at } => Row {

@@ -17,6 +17,7 @@ use Rattle.derivation.specs.computed.Marks.{covered, secret, marks}
 use Rattle.derivation.specs.computed.Shown.{below, chosenRule, chosenEnd, chosenRow, chosen, shown}
 use Rattle.checks.specs.Line.{tokensFrom, lineCheck}
 use Rattle.checks.specs.Question.{startCheck, spanCheck}
+use Rattle.grammar.specs.Repeats.{sameSymbols, sameRule, isRepeated}
 use Rattle.grammar.specs.Reading.{eachFrom, ruleFrom, rulesFrom, flagsSection, rulesSection, sectionsOf, readOf}
 use Rattle.grammar.specs.Value.{standing, rulesAt, grammarOf}
 use Rattle.report.specs.Job.{jobOf, questionsFrom}
@@ -52,8 +53,9 @@ pub examples :
     × (printed (7 ∷ []) ≡ text "refused 13 1\n")
     × (printed (2 ∷ 0 ∷ 1 ∷ 0 ∷ 0 ∷ 0 ∷ []) ≡ text "refused 1 2\n")
     × (printed (2 ∷ 0 ∷ 1 ∷ 0 ∷ 0 ∷ 0 ∷ 9 ∷ []) ≡ text "refused 13 6\n")
-unfolding roundsAndFacts marksOf printed pieces refusedLine jobOf questionsFrom chartPieces answerPieces treeLines nodeLine marksLine factLines factLine roundsLine lentWords lentDepths lentTree bytes numbered lineOf spaced text decimal digits readOf sectionsOf flagsSection rulesSection rulesFrom ruleFrom eachFrom grammarOf rulesAt standing lineCheck tokensFrom startCheck spanCheck roundsOf greatest factCount total facts factList gathered kept marks secret covered shown chosen chosenRow chosenEnd chosenRule below firstFrom depthOf depths table listed isFound seen grade round children child tokenIs some flatten
-examples = (refl, refl, refl, refl, refl, refl, refl)
+    × (printed (9 ∷ 0 ∷ 1 ∷ 0 ∷ 1 ∷ 0 ∷ 2 ∷ 0 ∷ 0 ∷ 0 ∷ 0 ∷ 0 ∷ 0 ∷ []) ≡ text "refused 14 7\n")
+unfolding roundsAndFacts marksOf printed pieces refusedLine jobOf questionsFrom chartPieces answerPieces treeLines nodeLine marksLine factLines factLine roundsLine lentWords lentDepths lentTree bytes numbered lineOf spaced text decimal digits readOf sectionsOf flagsSection rulesSection rulesFrom ruleFrom eachFrom isRepeated sameRule sameSymbols grammarOf rulesAt standing lineCheck tokensFrom startCheck spanCheck roundsOf greatest factCount total facts factList gathered kept marks secret covered shown chosen chosenRow chosenEnd chosenRule below firstFrom depthOf depths table listed isFound seen grade round children child tokenIs some flatten
+examples = (refl, refl, refl, refl, refl, refl, refl, refl)
 
 -- more than 4,096 bytes, whatever they are
 pub long-printed : (input : List ℕ) → 4096 < length input → printed input ≡ text "refused 13 4096\n"

@@ -21,7 +21,7 @@ use Rattle.tree.specs.Checks.{treeChecks}
 use Rattle.tree.specs.Told.{treeTold}
 
 pub data TreeOutcome (g line : List ℕ) (A i j : ℕ) (words depths out : List ℕ) (answer : TreeAnswer) (words′ depths′ out′ : List ℕ) : Type 0 where
-  -- 1 to 9: the first refusal is the answer, and no lent memory changes
+  -- 1 to 9 and 14: the first refusal is the answer, and no lent memory changes
   turnedDown : {refusal : Refusal} →
       early (treeChecks g line A i j words depths) ≡ check.Refused refusal →
       answer ≡ tree.Refused refusal → words′ ≡ words → depths′ ≡ depths → out′ ≡ out →

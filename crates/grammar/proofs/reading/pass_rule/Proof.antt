@@ -3,6 +3,7 @@ use borrow.Author.Needs.{needs}
 use Prim.Native.Nat.{_+_}
 use native.Mathlib.Omega.{arith}
 use borrow.Author.Tests.{lt-ltb, le-ltb, le-leb, lt-leb}
+use Rattle.grammar.specs.Standing.{standing}
 use Rattle.grammar.specs.Reading.{ruleFrom}
 use Rattle.grammar.proofs.reading.pass_rule.Statement.{statement}
 use Rattle.grammar.proofs.reading.pass_rule.Tie as tie
@@ -47,7 +48,7 @@ pass-symbols-requires : tie.Need-pass-symbols-requires
 pass-symbols-requires c κs = search needs
 
 returns-5 : tie.Need-returns-5
-unfolding ruleFrom
+unfolding ruleFrom standing
 returns-5 c =
     let e = c .before .before .before in
     simp (lt-ltb _ _ (e .before .before .before .if1 .left), lt-ltb _ _ (e .before .if2 .left), lt-ltb _ _ (e .if3 .left), le-leb _ _ (c .before .if4 .left))

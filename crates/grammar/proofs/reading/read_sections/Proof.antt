@@ -67,7 +67,7 @@ cast-categories : tie.Need-cast-categories
 cast-categories c = omega (arith, c .shared-slice-known3 .given (classes (c .before .before) .next .given .0 .0))
 
 pass-rules-section-requires : tie.Need-pass-rules-section-requires
-pass-rules-section-requires c κs = search needs
+pass-rules-section-requires c κs = (flags-section-to _ _ _ _ (first (classes (c .before .before))) .high, flags-section-to _ _ _ _ (second (c .before .before)) .high)
 
 enum-known-refusal-3 : tie.Need-enum-known-refusal-3
 enum-known-refusal-3 c = search needs

@@ -3,14 +3,13 @@
 use Prim.Native.Nat.{ℕ, _+_, _-_, _≤_, _<_}
 use mathlib.Core.Path.{_≡_, refl, sym, _∙_, ap}
 use mathlib.Core.List.{List}
-use native.Mathlib.Nat.{lt-of-not-le}
-use native.Mathlib.Decide.{decLe}
 use native.Mathlib.Omega.{arith}
 use borrow.Author.Count.{below-more}
-use lib.ListN.{length, getD, set, replicate, length-set, getD-replicate, List·getD-eq-default}
+use lib.ListN.{length, getD, set, replicate, length-set}
 use lib.Seq.{getD-set-same, getD-set-other}
 use denote.Ref.{now}
 use Rattle.grammar.specs.Value.{startOf, after, Stands}
+use Rattle.grammar.proofs.Parts.{zeros}
 use Rattle.grammar.proofs.Accepted.{whole, found, start-more, start-none}
 use Rattle.grammar.proofs.rules.rule_starts.Statement.{statement}
 use Rattle.grammar.proofs.rules.rule_starts.Tie as tie
@@ -22,11 +21,7 @@ record Filled (f : ℕ → ℕ) (p : ℕ) (starts : List ℕ) : Type 0 where
   rest : (q : ℕ) → p ≤ q → getD starts q 0 ≡ 0
 
 filled-none : (f : ℕ → ℕ) → Filled f 0 (replicate 128 0)
-filled-none f = record { long = refl; done = λ q h. absurd (omega arith); rest = λ q h. go q (decLe 128 q) }
-  where
-    go : (q : ℕ) → Dec (128 ≤ q) → _≡_ {A = ℕ} (getD (replicate 128 0) q 0) 0
-    go q (yes h) = List·getD-eq-default (replicate 128 0) 0 h
-    go q (no h) = getD-replicate 128 q 0 0 (lt-of-not-le h)
+filled-none f = record { long = refl; done = λ q h. absurd (omega arith); rest = λ q h. zeros 128 q }
 
 filled-more : (f : ℕ → ℕ) (p at : ℕ) (starts : List ℕ) → p < 128 → at ≡ f p → Filled f p starts → Filled f (p + 1) (set starts p at)
 filled-more f p at starts l e x =
