@@ -16,9 +16,10 @@
  *   0        the question is answered: the numbers of the answer are written, *place is as before, and the work memory
  *            (words and depths) is filled anew
  *   1 to 11  the question is turned down, by enum berylskip_refusal: *place is written, and the numbers of the answer are
- *            as before; after 1 to 9 all lent memory is as before, and after 10 and 11 the work memory is filled,
+ *   or 14    as before; after 1 to 9 and 14 all lent memory is as before, and after 10 and 11 the work memory is filled,
  *            and the marks, the tree's bytes or the records are as before
- * Where several refusals hold, the first in this order is given: 1 to 4 in reading order, then 5, 6, 7, 8, 9, 10, 11.
+ * Where several refusals hold, the first in this order is given: 1 to 4 and 14 in reading order, then 5, 6, 7, 8, 9, 10, 11.
+ * A rule is compared with all before it (14) once its last byte is read, before the next rule is looked at.
  * Memory past what is named keeps what it held. Nothing is kept between two calls.
  */
 #ifndef BERYLSKIP_H
@@ -77,7 +78,8 @@ enum berylskip_refusal {
     BERYLSKIP_NUMBER_OUTSIDE = 8,       /* 0 the category, 1 the start, 2 the end */
     BERYLSKIP_WORK_TOO_SMALL = 9,       /* 0 the words, 1 the depths */
     BERYLSKIP_TREE_OF_NO_FACT = 10,     /* 0 */
-    BERYLSKIP_OUTPUT_TOO_SMALL = 11     /* marks: bytes needed; forest: records needed; tree: 0 */
+    BERYLSKIP_OUTPUT_TOO_SMALL = 11,    /* marks: bytes needed; forest: records needed; tree: 0 */
+    BERYLSKIP_RULE_REPEATED = 14        /* the left category's byte of the first rule that equals an earlier one */
 };
 
 /* A record of the forest: the first place - 1 symbols of the rule derive start..middle, and the symbol at the place, counted
@@ -135,7 +137,7 @@ uint8_t berylskip_forest_nonnull(const uint8_t *grammar, size_t grammar_length,
  * Needs BERYLSKIP_WORDS words and BERYLSKIP_DEPTHS depths, else 9.
  * Answers the greatest depth (*rounds, 0 without facts) and the number of facts (*facts). Word BERYLSKIP_WORD_AT (A, i) then has
  * bit j set exactly for fact (A, i, j); the number at BERYLSKIP_DEPTH_AT (A, i, j) is its depth, 0 where there is no fact.
- * Turned down by 1 to 7 and 9; all lent memory is then as before. */
+ * Turned down by 1 to 7, 9 and 14; all lent memory is then as before. */
 static inline uint8_t berylskip_chart(const uint8_t *grammar, size_t grammar_length,
                                       const uint8_t *line, size_t line_length,
                                       uint64_t *words, size_t words_length,
@@ -156,7 +158,7 @@ static inline uint8_t berylskip_chart(const uint8_t *grammar, size_t grammar_len
  * Needs the work memory of chart, else 9; a category of the grammar and a start up to the number of tokens, else 8.
  * Answers the word of (category, start) (*row), how many ends it shows (*ends), and the smallest (*smallest, BERYLSKIP_NO_END
  * for none); the work memory is filled as by chart.
- * Turned down by 1 to 9; all lent memory is then as before. */
+ * Turned down by 1 to 9 and 14; all lent memory is then as before. */
 static inline uint8_t berylskip_ends(const uint8_t *grammar, size_t grammar_length,
                                      const uint8_t *line, size_t line_length,
                                      size_t category, size_t start,
@@ -177,7 +179,7 @@ static inline uint8_t berylskip_ends(const uint8_t *grammar, size_t grammar_leng
 /* Marks: which tokens are secret.
  * Needs the work memory of chart, else 9, and BERYLSKIP_MARKS bytes for the marks, else 11.
  * Answers a byte for each token, 1 secret and 0 not, and how many are 1 (*secret); the work memory is filled as by chart.
- * Turned down by 1 to 7 and 9, after which all lent memory is as before, and by 11, with the number of bytes needed as its
+ * Turned down by 1 to 7, 9 and 14, after which all lent memory is as before, and by 11, with the number of bytes needed as its
  * place, after which the work memory is filled and the marks are as before. */
 static inline uint8_t berylskip_marks(const uint8_t *grammar, size_t grammar_length,
                                       const uint8_t *line, size_t line_length,
@@ -201,7 +203,7 @@ static inline uint8_t berylskip_marks(const uint8_t *grammar, size_t grammar_len
  * Needs the work memory of chart, else 9; a span of the line, else 8; BERYLSKIP_NODE_BYTES for each node, else 11. Small
  * grammars have trees too large for any memory.
  * Answers the nodes in preorder, children left to right, and how many they are (*nodes); the work memory is filled as by chart.
- * Turned down by 1 to 9, after which all lent memory is as before, by 10 where (category, start, end) is no fact, and by 11,
+ * Turned down by 1 to 9 and 14, after which all lent memory is as before, by 10 where (category, start, end) is no fact, and by 11,
  * both with place 0, after which the work memory is filled and the tree's bytes are as before. */
 static inline uint8_t berylskip_tree(const uint8_t *grammar, size_t grammar_length,
                                      const uint8_t *line, size_t line_length,
@@ -226,7 +228,7 @@ static inline uint8_t berylskip_tree(const uint8_t *grammar, size_t grammar_leng
  * Needs the work memory of chart, else 9, and room for every record, else 11; lend room for 0 records to learn how many there are.
  * Answers the records, ascending by rule, place, start, middle and end, each once, and how many they are (*records); the work
  * memory is filled as by chart.
- * Turned down by 1 to 7 and 9, after which all lent memory is as before, and by 11, with the number of records needed as its
+ * Turned down by 1 to 7, 9 and 14, after which all lent memory is as before, and by 11, with the number of records needed as its
  * place, after which the work memory is filled and the records are as before. */
 static inline uint8_t berylskip_forest(const uint8_t *grammar, size_t grammar_length,
                                        const uint8_t *line, size_t line_length,

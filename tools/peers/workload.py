@@ -30,11 +30,10 @@ class Workload:
                 self.answers.append(words)
 
     def alternatives(self):
-        """The rules' right sides by category, each once: some programs refuse a rule that stands twice."""
+        """The rules' right sides by category."""
         sides = {}
         for left, right in self.rules:
-            if right not in sides.setdefault(left, []):
-                sides[left].append(right)
+            sides.setdefault(left, []).append(right)
         return sides
 
 

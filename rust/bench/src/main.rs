@@ -4,12 +4,14 @@
 //! bench --write FOLDER
 //!
 //! Prints markdown tables: microseconds of CPU time for a line (medians of RUNS interleaved runs), ratios, rounds and facts; growth
-//! with the line's length; tree and forest questions. All must give the same chart and depths before they are timed.
+//! with the line's length; tree and forest questions; and nanoseconds for the reading of a grammar. All must give the same chart and
+//! depths before they are timed.
 //! With --write it times nothing, and writes the workloads and the probes as text for other recognisers.
 
 mod plain;
 mod plain_output;
 mod probes;
+mod reading;
 mod text;
 
 use bench::clock::{medians, unknown};
@@ -334,6 +336,8 @@ fn main() {
         .iter()
         .filter(|workload| workload.tokens == 63 && !workload.name.starts_with("chain, 96"));
     longest.for_each(|workload| print_forest(workload, runs));
+    println!("\n## Reading\n");
+    reading::print(runs);
     let worst = figures
         .iter()
         .max_by(|one, other| one.times[0].total_cmp(&other.times[0]));

@@ -1,7 +1,6 @@
 //! Small grammars on which recognisers differ: left recursion, circles, empty rules, a line that does not fit.
 
-use bench::workloads::{plain, Workload};
-use compare::grammar::write;
+use bench::workloads::{accepted, plain, Workload};
 use compare::grammar::Symbol::{self, Category, Class};
 
 /// Class 0 is a, class 1 is b; category 0 is A, the start, and category 1 is B.
@@ -45,7 +44,7 @@ fn probe((name, rules, line): (&'static str, &str, &str)) -> Workload {
     Workload {
         name,
         tokens: line.len(),
-        grammar: write(&plain(2, 2, rules)),
+        grammar: accepted(&plain(2, 2, rules)),
         start: 0,
         lines: vec![line.chars().map(|letter| u8::from(letter == 'b')).collect()],
     }

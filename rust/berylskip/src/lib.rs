@@ -1,13 +1,13 @@
 //! The questions of Berylskip for Rust: a grammar's bytes and a line of token classes in, facts, marks, a forest and a tree out.
 //!
 //! Every question fills the lent work memory anew: [`words_needed`] words and [`depths_needed`] depths. Memory past these keeps
-//! what it held. A question that is turned down answers [`Refused`]. After the numbers 1 to 9 all lent memory is as
+//! what it held. A question that is turned down answers [`Refused`]. After the numbers 1 to 9 and 14 all lent memory is as
 //! before; after 10 and 11 the work memory is filled, and the marks, the tree's bytes or the records are as before.
 //!
 //! The thread that asks needs 64 KiB of stack, or 1 MiB where it asks for a tree (docs/CONTRACTS.md, Stack).
 mod raw;
 
-/// A question was turned down: the refusal's number, 1 to 11, and its place (docs/REFUSALS.md).
+/// A question was turned down: the refusal's number, 1 to 11 or 14, and its place (docs/REFUSALS.md).
 #[derive(Clone, Copy, Debug, PartialEq, Eq)]
 pub struct Refused {
     pub number: u8,
@@ -62,7 +62,7 @@ fn answer<T>(number: u8, place: usize, value: T) -> Result<T, Refused> {
 /// Finds every fact and its depth. Word A×(n+1)+i then has bit j set exactly for fact (A, i, j), and its depth stands at
 /// (A×(n+1)+i)×(n+1)+j, 0 where there is no fact.
 ///
-/// Refuses by 1 to 7 and 9; all lent memory is then as before.
+/// Refuses by 1 to 7, 9 and 14; all lent memory is then as before.
 pub fn chart(
     g: &[u8],
     line: &[u8],
@@ -91,7 +91,7 @@ pub fn chart(
 
 /// The ends of the category's facts from a start; the work memory is filled as by [`chart`].
 ///
-/// Refuses by 1 to 9; all lent memory is then as before.
+/// Refuses by 1 to 9 and 14; all lent memory is then as before.
 pub fn ends(
     g: &[u8],
     line: &[u8],
@@ -133,7 +133,7 @@ pub fn ends(
 
 /// Writes a mark for each token, 1 secret and 0 not, and answers how many are 1; the work memory is filled as by [`chart`].
 ///
-/// Refuses by 1 to 7 and 9, and by 11 with the number of tokens where the marks have less room.
+/// Refuses by 1 to 7, 9 and 14, and by 11 with the number of tokens where the marks have less room.
 pub fn marks(
     g: &[u8],
     line: &[u8],
@@ -165,7 +165,7 @@ pub fn marks(
 /// Writes one tree of the fact (A, i, j), of least height, in preorder, and answers how many nodes it has; the work memory is
 /// filled as by [`chart`]. A node is four bytes: kind (0 token, 1 rule), class or rule, start, end.
 ///
-/// Refuses by 1 to 9, by 10 where (A, i, j) is no fact, and by 11 where the tree does not fit.
+/// Refuses by 1 to 9 and 14, by 10 where (A, i, j) is no fact, and by 11 where the tree does not fit.
 #[allow(clippy::too_many_arguments)]
 pub fn tree(
     g: &[u8],
@@ -204,7 +204,7 @@ pub fn tree(
 /// Writes the records of the line, ascending by rule, place, start, middle and end, each once, and answers how many there are;
 /// the work memory is filled as by [`chart`].
 ///
-/// Refuses by 1 to 7 and 9, and by 11 with the number of records where the row has less room.
+/// Refuses by 1 to 7, 9 and 14, and by 11 with the number of records where the row has less room.
 pub fn forest(
     g: &[u8],
     line: &[u8],

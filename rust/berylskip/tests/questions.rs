@@ -111,6 +111,37 @@ fn chart_refuses() {
 }
 
 #[test]
+fn a_repeated_rule_is_refused() {
+    let (mut words, mut depths) = work();
+    let (mut bytes, mut rows) = ([7; 33], [BLANK; 15]);
+    let mut twice = GRAMMAR.to_vec();
+    twice[6] = 3;
+    twice.extend([0, 3, 128, 1, 0]);
+    assert_eq!(
+        chart(&twice, LINE, &mut words, &mut depths),
+        refused(14, 15)
+    );
+    assert_eq!(
+        ends(&twice, LINE, 0, 1, &mut words, &mut depths),
+        refused(14, 15)
+    );
+    assert_eq!(
+        marks(&twice, LINE, &mut words, &mut depths, &mut bytes),
+        refused(14, 15)
+    );
+    assert_eq!(
+        tree(&twice, LINE, 0, 1, 6, &mut words, &mut depths, &mut bytes),
+        refused(14, 15)
+    );
+    assert_eq!(
+        forest(&twice, LINE, &mut words, &mut depths, &mut rows),
+        refused(14, 15)
+    );
+    assert_eq!((words, depths), work());
+    assert_eq!((bytes, rows), ([7; 33], [BLANK; 15]));
+}
+
+#[test]
 fn empty_line() {
     let (mut words, mut depths) = work();
     assert_eq!(

@@ -8,6 +8,7 @@ use crate::job;
 use crate::plan;
 use crate::questions::judge;
 use crate::random::Random;
+use crate::repeats;
 use crate::tally::Tally;
 
 pub struct Input {
@@ -25,6 +26,7 @@ pub fn sound(random: &mut Random) -> Input {
     };
     let character = random.one_of(&CHARACTERS);
     let mut value = grammar_of(random, &character, size);
+    repeats::drop_repeats(&mut value.rules);
     value.rules.truncate(128);
     let tokens = match (size, random.below(10)) {
         (Size::Large, 0..=3) => 63,
@@ -114,12 +116,19 @@ pub fn run(seed: u64, number: u64, tally: &mut Tally) -> Result<(), String> {
     Ok(())
 }
 
+/// Asks about an input; a sound one must be accepted, so that its chart is compared.
 fn ask(input: &Input, turn: usize, random: Random, tally: &mut Tally) -> Result<(), String> {
     let judged = judge(&input.grammar, &input.line);
+    let damaged = damage::KINDS.contains(&input.kind);
+    match judged {
+        Ok(_) => tally.add_accepted(),
+        Err(refused) if !damaged => return Err(format!("a sound input is refused: {refused:?}")),
+        Err(_) => {}
+    }
     let mut asker = Asker::new(&input.grammar, &input.line, &judged, random, tally);
     if input.kind == damage::TRUNCATED {
         plan::ask_one(&mut asker, turn)
-    } else if damage::KINDS.contains(&input.kind) {
+    } else if damaged {
         plan::ask_each_once(&mut asker)
     } else {
         plan::ask_everything(&mut asker)

@@ -3,6 +3,7 @@
 use crate::grammar::Symbol::{Category, Class};
 use crate::grammar::{Grammar, Rule, Symbol};
 use crate::random::Random;
+use crate::repeats;
 
 #[derive(Clone, Copy, PartialEq, Eq)]
 pub enum Size {
@@ -30,7 +31,7 @@ pub const CHARACTERS: [Character; 17] = [
     ("ambiguous", ambiguous),
     ("sparse, many classes", sparse),
     ("chain of rounds", chain),
-    ("repeated rules", repeated),
+    ("rules nearly repeated", nearly_repeated),
     ("brackets", brackets),
     ("mixed", mixed),
 ];
@@ -74,8 +75,17 @@ fn category(random: &mut Random, categories: usize) -> Symbol {
     Category(random.below(categories))
 }
 
+/// A category in so many of a hundred cases, else a class.
+pub fn symbol(random: &mut Random, classes: usize, categories: usize, share: usize) -> Symbol {
+    if random.chance(share) {
+        category(random, categories)
+    } else {
+        class(random, classes)
+    }
+}
+
 /// Rules with arbitrary left categories and symbols; a share of the symbols are categories.
-fn arbitrary(
+pub fn arbitrary(
     random: &mut Random,
     count: usize,
     classes: usize,
@@ -87,15 +97,9 @@ fn arbitrary(
     for _ in 0..count {
         let left = random.below(categories);
         let length = random.one_of(lengths);
-        let mut right = Vec::new();
-        for _ in 0..length {
-            let symbol = if random.chance(share) {
-                category(random, categories)
-            } else {
-                class(random, classes)
-            };
-            right.push(symbol);
-        }
+        let right = (0..length)
+            .map(|_| symbol(random, classes, categories, share))
+            .collect();
         rules.push(Rule { left, right });
     }
     rules
@@ -238,11 +242,9 @@ fn all_rules(random: &mut Random, size: Size) -> (usize, usize, Rules) {
     let categories = upto(random, size, 4, 12, 32);
     let classes = upto(random, size, 3, 6, 12);
     let share = random.one_of(&[20, 40, 60]);
-    (
-        classes,
-        categories,
-        arbitrary(random, 128, classes, categories, &[1, 1, 2, 2, 3, 4], share),
-    )
+    let mut rules = arbitrary(random, 128, classes, categories, &[1, 1, 2, 2, 3, 4], share);
+    repeats::fill_up(random, &mut rules, 128, classes, categories);
+    (classes, categories, rules)
 }
 
 fn no_rule(random: &mut Random, size: Size) -> (usize, usize, Rules) {
@@ -329,14 +331,13 @@ fn chain(random: &mut Random, size: Size) -> (usize, usize, Rules) {
     (random.between(1, 2), categories, rules)
 }
 
-fn repeated(random: &mut Random, size: Size) -> (usize, usize, Rules) {
+fn nearly_repeated(random: &mut Random, size: Size) -> (usize, usize, Rules) {
     let (classes, categories, mut rules) = mixed(random, size);
     for _ in 0..random.between(1, 6) {
-        if !rules.is_empty() && rules.len() < 128 {
-            let copied = rules[random.below(rules.len())].clone();
-            let place = random.below(rules.len() + 1);
-            rules.insert(place, copied);
-        }
+        let rule = rules[random.below(rules.len())].clone();
+        let way = random.below(repeats::WAYS);
+        let near = repeats::nearly(random, &rule, way, classes, categories);
+        rules.insert(random.below(rules.len() + 1), near);
     }
     (classes, categories, rules)
 }

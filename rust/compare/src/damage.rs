@@ -1,18 +1,21 @@
-//! Input with faults in it: grammars cut, changed or lengthened, lines too long or with bad tokens, and several faults at once.
+//! Input with faults in it: grammars cut, changed or lengthened, or with a rule twice; lines too long or with bad tokens; and several
+//! faults at once.
 
 use crate::cases::Input;
 use crate::random::Random;
+use crate::repeats;
 
 pub const TRUNCATED: &str = "damaged: truncated at each byte";
 const CHANGED: &str = "damaged: one byte changed";
 const ADDED: &str = "damaged: one byte added";
+const REPEATED: &str = "damaged: a rule repeated, or nearly";
 const LONG_LINE: &str = "damaged: line of 64 or more";
 const BAD_TOKEN: &str = "damaged: token out of range";
 const ANY_BYTES: &str = "damaged: any bytes";
 const SEVERAL: &str = "damaged: several faults at once";
 
-pub const KINDS: [&str; 7] = [
-    TRUNCATED, CHANGED, ADDED, LONG_LINE, BAD_TOKEN, ANY_BYTES, SEVERAL,
+pub const KINDS: [&str; 8] = [
+    TRUNCATED, CHANGED, ADDED, REPEATED, LONG_LINE, BAD_TOKEN, ANY_BYTES, SEVERAL,
 ];
 
 /// Damaged inputs that come from a sound one.
@@ -30,11 +33,7 @@ pub fn inputs(random: &mut Random, base: Input) -> Vec<Input> {
     match kind {
         TRUNCATED => {
             for length in 0..grammar.len() {
-                let line = if random.chance(70) {
-                    line.clone()
-                } else {
-                    damaged_line(random, &line)
-                };
+                let line = mostly_sound_line(random, &line);
                 add(grammar[..length].to_vec(), line);
             }
         }
@@ -58,6 +57,12 @@ pub fn inputs(random: &mut Random, base: Input) -> Vec<Input> {
                 let mut longer = grammar.clone();
                 longer.insert(place, interesting(random, 0));
                 add(longer, line.clone());
+            }
+        }
+        REPEATED => {
+            for repeated in repeats::damaged(random, &grammar) {
+                let line = mostly_sound_line(random, &line);
+                add(repeated, line);
             }
         }
         LONG_LINE => add(grammar.clone(), long_line(random, &line)),
@@ -98,7 +103,7 @@ fn interesting(random: &mut Random, near: u8) -> u8 {
     }
 }
 
-fn with_byte(random: &mut Random, grammar: &[u8], place: usize) -> Vec<u8> {
+pub fn with_byte(random: &mut Random, grammar: &[u8], place: usize) -> Vec<u8> {
     let mut changed = grammar.to_vec();
     changed[place] = interesting(random, changed[place]);
     changed
@@ -138,5 +143,13 @@ fn damaged_line(random: &mut Random, line: &[u8]) -> Vec<u8> {
         1 => with_bad_tokens(random, line, 3),
         2 => with_bad_tokens(random, line, 128),
         _ => line.to_vec(),
+    }
+}
+
+fn mostly_sound_line(random: &mut Random, line: &[u8]) -> Vec<u8> {
+    if random.chance(70) {
+        line.to_vec()
+    } else {
+        damaged_line(random, line)
     }
 }

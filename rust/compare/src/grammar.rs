@@ -1,4 +1,4 @@
-//! Grammar bytes as document 01 describes them: read byte by byte, refused by 1 to 5, and written.
+//! Grammar bytes as the documents describe them: read byte by byte, refused by 1 to 5 and 14, and written.
 
 use berylskip::Refused;
 
@@ -110,7 +110,12 @@ pub fn read(bytes: &[u8]) -> Result<Grammar, Refused> {
     let count = reader.count(0, 128)?;
     let mut rules = Vec::new();
     for _ in 0..count {
-        rules.push(reader.rule(class_flags.len(), category_flags.len())?);
+        let place = reader.at;
+        let rule = reader.rule(class_flags.len(), category_flags.len())?;
+        if rules.contains(&rule) {
+            return Err(Refused { number: 14, place });
+        }
+        rules.push(rule);
     }
     if reader.at < bytes.len() {
         return Err(Refused {

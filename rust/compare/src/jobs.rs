@@ -108,7 +108,9 @@ fn at_the_memory_limit(random: &mut Random) -> (Vec<u8>, Vec<u8>) {
         0 => {
             add(0, &[Class(0)]);
             add(categories - 1, &[first, last]);
-            add(categories - 1, &[Class(0)]);
+            if categories > 1 {
+                add(categories - 1, &[Class(0)]);
+            }
         }
         1 => {
             add(0, &[]);

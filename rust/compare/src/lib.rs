@@ -1,6 +1,6 @@
 //! Compares the proved library with a recogniser written by another method.
 //!
-//! The reference side (`grammar`, `reference`, `tree`, `questions`, `spans`) follows document 01 sentence by sentence and
+//! The reference side (`grammar`, `reference`, `tree`, `questions`, `spans`) follows the documents sentence by sentence and
 //! shares no code with the library. The other modules make cases, ask both sides and compare all that a caller can see.
 
 pub mod asking; // one call of the library, compared with all its lent memory
@@ -18,6 +18,7 @@ pub mod program; // runs the program `spans`
 pub mod questions; // what the document says of each question
 pub mod random; // random numbers from a seed
 pub mod reference; // every fact and its depth, by an agenda
+pub mod repeats; // rules that stand twice, or nearly
 pub mod spans; // what the program prints for a job
 pub mod table; // a row for each question
 pub mod tally; // how many calls ended in which way

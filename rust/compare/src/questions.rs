@@ -6,7 +6,7 @@ use crate::table::{Numbers, Span};
 use crate::tree::Trees;
 use berylskip::{Branch, Chart, Ends, Refused};
 
-/// The facts of a line, or why the grammar or the line is refused (1 to 7).
+/// The facts of a line, or why the grammar (1 to 5, 14) or the line (6, 7) is refused.
 pub fn judge(bytes: &[u8], line: &[u8]) -> Result<Reference, Refused> {
     let grammar = grammar::read(bytes)?;
     if line.len() > 63 {

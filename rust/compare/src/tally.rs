@@ -4,7 +4,11 @@ use crate::table::{Question, QUESTIONS};
 use berylskip::Refused;
 use std::collections::BTreeMap;
 
-const LAST_NUMBER: usize = 13;
+const LAST_NUMBER: usize = 14;
+/// What a call of the library can come to: 0 is an answer, the others are its refusals.
+const OF_THE_LIBRARY: [usize; 13] = [0, 1, 2, 3, 4, 5, 6, 7, 8, 9, 10, 11, 14];
+/// What the program can print: 0 is a job without a refusal.
+const OF_THE_PROGRAM: [usize; 14] = [0, 1, 2, 3, 4, 5, 6, 7, 8, 9, 10, 11, 13, 14];
 
 /// How often each outcome was met: 0 is an answer, the others are refusals.
 type Endings = [usize; LAST_NUMBER + 1];
@@ -12,6 +16,7 @@ type Endings = [usize; LAST_NUMBER + 1];
 #[derive(Default)]
 pub struct Tally {
     kinds: BTreeMap<&'static str, usize>,
+    accepted: usize,
     endings: BTreeMap<&'static str, Endings>,
     printed: Endings,
 }
@@ -19,6 +24,11 @@ pub struct Tally {
 impl Tally {
     pub fn add_kind(&mut self, kind: &'static str) {
         *self.kinds.entry(kind).or_insert(0) += 1;
+    }
+
+    /// An input whose grammar and line are accepted, so that its chart is filled.
+    pub fn add_accepted(&mut self) {
+        self.accepted += 1;
     }
 
     /// One call of the library: answered, or refused by a number.
@@ -51,13 +61,13 @@ impl Tally {
         self.endings.values().flatten().sum()
     }
 
-    /// The outcomes that no call met: an answer to each question, and the refusals of the library (1 to 11).
+    /// The outcomes that no call met: an answer to each question, and each refusal of the library.
     pub fn never_met(&self) -> Vec<String> {
         let answers = (QUESTIONS.iter())
             .filter(|question| self.row(question)[0] == 0)
             .map(|question| format!("an answer to {}", question.name));
-        let refusals = (1..=11)
-            .filter(|&number| QUESTIONS.iter().all(|one| self.row(one)[number] == 0))
+        let refusals = (OF_THE_LIBRARY[1..].iter())
+            .filter(|&&number| QUESTIONS.iter().all(|one| self.row(one)[number] == 0))
             .map(|number| format!("refusal {number}"));
         answers.chain(refusals).collect()
     }
@@ -68,19 +78,15 @@ impl Tally {
 
     pub fn print(&self) {
         self.print_kinds();
-        println!("calls of the library by outcome (0 is an answer, the others are refusals):");
-        print_row(
-            "",
-            &(0..=11)
-                .map(|number| number.to_string())
-                .collect::<Vec<_>>(),
+        println!(
+            "inputs whose grammar and line are accepted: {}",
+            self.accepted
         );
+        println!("calls of the library by outcome (0 is an answer, the others are refusals):");
+        print_row("", &OF_THE_LIBRARY);
         for question in QUESTIONS {
             let row = self.row(question);
-            print_row(
-                question.name,
-                &row[..=11].iter().map(usize::to_string).collect::<Vec<_>>(),
-            );
+            print_row(question.name, &OF_THE_LIBRARY.map(|number| row[number]));
         }
         if self.printed.iter().sum::<usize>() > 0 {
             self.print_runs();
@@ -102,24 +108,12 @@ impl Tally {
 
     fn print_runs(&self) {
         println!("runs of spans by what is printed (0 is a job without a refusal, else lines 'refused'):");
-        print_row(
-            "",
-            &(0..=13)
-                .map(|number| number.to_string())
-                .collect::<Vec<_>>(),
-        );
-        print_row(
-            "spans",
-            &self
-                .printed
-                .iter()
-                .map(usize::to_string)
-                .collect::<Vec<_>>(),
-        );
+        print_row("", &OF_THE_PROGRAM);
+        print_row("spans", &OF_THE_PROGRAM.map(|number| self.printed[number]));
     }
 }
 
-fn print_row(name: &str, fields: &[String]) {
+fn print_row(name: &str, fields: &[usize]) {
     let fields: Vec<String> = fields.iter().map(|field| format!("{field:>7}")).collect();
     println!("  {name:<7}{}", fields.concat());
 }
