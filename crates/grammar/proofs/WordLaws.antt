@@ -71,14 +71,14 @@ fits-next word left symbol h s f =
     let next : word * 256 + (symbol + 1) + 1 ≤ (word + 1) * 256 = omega arith in
     (omega arith, le-trans (mul-le-mul-right rest next) bound)
 
+pub fits-none : (left : ℕ) → left ≤ 8 → Fits 0 left
+fits-none left h = rw (one-mul (256 ^ left)) (pow-le-pow-right (omega arith) h)
+
+-- the word of bytes that are to come: of none, and by the first of them
 pub word-none : (g : List ℕ) (word left : ℕ) → left ≤ 0 → wordFrom word (take left g) ≡ word
 unfolding wordFrom
 word-none g word left h = let z : left ≡ 0 = omega arith in rw z
 
-pub fits-none : (left : ℕ) → left ≤ 8 → Fits 0 left
-fits-none left h = rw (one-mul (256 ^ left)) (pow-le-pow-right (omega arith) h)
-
--- the word of the bytes from a position on, by the first of them
 pub word-step :
     (g : List ℕ) (word left at : ℕ) → 0 < left → at < length g → wordFrom word (take left (drop at g)) ≡ wordFrom (word * 256 + (byte g at + 1)) (take (left - 1) (drop (at + 1) g))
 unfolding wordFrom

@@ -1,5 +1,5 @@
-//! The time that reading a grammar takes: the library beside two plain readers. They are the library's reader, function by function; one
-//! has no test of repeated rules, and the other compares a rule with the earlier ones of its left category.
+//! The time that reading a grammar takes: the library beside two plain readers. They test the same bytes in the same order as the library
+//! does; one has no test of repeated rules, and the other compares a rule with the earlier ones of its left category, byte by byte.
 
 use bench::clock::{medians, unknown};
 use bench::workloads::{accepted, notes, plain};

@@ -1,7 +1,7 @@
 -- `grammar::chains::on_chain` meets its contract. The loop's invariant: of the numbers on the chain, those with this word are on what is left of it.
 use Prim.Native.Nat.{ℕ, _-_, _≤_}
 use mathlib.Core.Path.{_≡_, refl}
-use mathlib.Core.Logic.{_⊎_, inl, inr}
+use mathlib.Core.Logic.{⊎-elim}
 use mathlib.Core.Bool.{false≢true}
 use native.Mathlib.Omega.{arith}
 use borrow.Author.Needs.{needs}
@@ -16,10 +16,6 @@ Inv-loop words before entry word left₀ left =
     (left ≤ 128)
     × ((q : ℕ) → OnChain before left q → OnChain before entry q)
     × ((q : ℕ) → OnChain before entry q → getD words q 0 ≡ word → OnChain before left q)
-
-past : {a : Type 0} {b : Type 0} → a ⊎ b → ¬ a → b
-past (inl x) n = absurd (n x)
-past (inr x) n = x
 
 abbrev μ-loop : tie.MeasureT-loop
 μ-loop words before entry word left₀ left = left
@@ -47,7 +43,7 @@ loop-again c =
     let more = c .before .before .before .loop-test .taken in (
       omega (arith, start .pre .2 (l .loop .left - 1), l .loop .inv .0),
       λ q h. l .loop .inv .1 q (chain-later _ (l .loop .left) more h),
-      λ q h e. past (chain-cases _ (l .loop .left) more (l .loop .inv .2 q h e)) (λ z. c .before .if1 .left (rw z at e)),
+      λ q h e. ⊎-elim (λ z. absurd (c .before .if1 .left (rw z at e))) (λ rest. rest) (chain-cases _ (l .loop .left) more (l .loop .inv .2 q h e)),
     )
 
 returns-2 : tie.Need-returns-2 Inv-loop μ-loop
