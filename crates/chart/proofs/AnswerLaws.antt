@@ -11,7 +11,7 @@ use Rattle.refusals.specs.declared.Check.the-variants as check
 use Rattle.refusals.specs.Order.{reported}
 use Rattle.positions.specs.Member.{digit, Member}
 use Rattle.positions.specs.Count.{countBelow}
-use Rattle.positions.specs.First.{First}
+use Rattle.positions.specs.BothEnds.{BothEnds}
 use Rattle.positions.proofs.Digits.{digit-above}
 use Rattle.positions.proofs.Members.{same-members}
 use Rattle.derivation.specs.Grammar.{Grammar, Proper}
@@ -70,10 +70,11 @@ module _ (g line words depths : List ℕ) (s : Sections) where
 
   pub ends-answered : (A i : ℕ) → Passes g line (Start A i) (length words) (length depths) s →
       {answer : EndsAnswer} {words′ depths′ : List ℕ} → EndsOutcome g line A i words depths answer words′ depths′ →
-      (row : ℕ) × (smallest : ℕ) × (answer ≡ ends.Row row (countBelow 64 row) smallest) × ((j : ℕ) → Member row j ↔ Fact (grammarOf g s) line A i j) × First row smallest
+      (row : ℕ) × (smallest : ℕ) × (largest : ℕ) × (answer ≡ ends.Row row (countBelow 64 row) smallest largest)
+      × ((j : ℕ) → Member row j ↔ Fact (grammarOf g s) line A i j) × BothEnds row smallest largest
   ends-answered A i passes (ends-outcome.turnedDown p a w d) = absurd (not-both p passed)
     where
       passed : reported (endsChecks g line A i words depths) ≡ check.Passed
       passed = rw (early-passed words depths check.Passed check.Passed passes)
-  ends-answered A i passes {answer} (found {row = row} {smallest = smallest} p t m c f y) =
-      (row, smallest, ends-told answer t ∙ rw c, rw (grammar-is passes) at m, f)
+  ends-answered A i passes {answer} (found {row = row} {smallest = smallest} {largest = largest} p t m c b y) =
+      (row, smallest, largest, ends-told answer t ∙ rw c, rw (grammar-is passes) at m, b)

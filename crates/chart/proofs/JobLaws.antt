@@ -5,11 +5,13 @@ use mathlib.Core.Bool.{cond}
 use mathlib.Core.List.{List}
 use native.Mathlib.Omega.{arith}
 use lib.ListN.{length, getD}
+use lib.Count.{trailingZeros, leadingZeros}
 use borrow.Author.Tests.{le-ltb}
 use Rattle.positions.specs.Member.{digit, Member}
 use Rattle.positions.specs.Count.{countBelow}
-use Rattle.positions.specs.First.{First}
-use Rattle.positions.proofs.Unique.{first-unique}
+use Rattle.positions.specs.BothEnds.{BothEnds}
+use Rattle.positions.proofs.Extremes.{smallestOf, largestOf, both-computed}
+use Rattle.positions.proofs.Unique.{both-ends-unique}
 use Rattle.derivation.specs.Grammar.{Proper}
 use Rattle.derivation.specs.Depth.{Depth, deep}
 use Rattle.derivation.specs.computed.Search.{some}
@@ -87,14 +89,9 @@ other-row : listed (λ j. cond (facts jobGrammar otherLine 0 1 j) 1 0) 0 7 ≡ l
 unfolding jobGrammar otherLine facts depths table listed isFound grade round children child tokenIs some digit
 other-row = refl
 
-job-smallest : First 84 2
-unfolding digit
-job-smallest = record { within = omega arith; noneBelow = none; found = λ l. refl }
-  where
-    none : (j : ℕ) → j < 2 → Member 84 j → ⊥
-    none zero l m = omega arith
-    none (suc zero) l m = omega arith
-    none (suc (suc j)) l m = omega arith
+job-both : BothEnds 84 2 6
+unfolding smallestOf largestOf trailingZeros leadingZeros
+job-both = both-computed 84 (omega arith)
 
 job-count : countBelow 64 84 ≡ 3
 unfolding countBelow digit
@@ -137,11 +134,11 @@ module _ {words depths : List ℕ} (memory : JobMemory words depths) where
       let filled : WorkFilled jobGrammar otherLine words depths _ _ = rw job-grammar at (e .1) in
       (e .0 ∙ rw (job-grammar, other-rounds, other-facts), row-is jobGrammar otherLine job-proper 0 1 _ (filled .word 0 1 (omega arith) (omega arith)) 0 (omega arith) other-row)
 
-  -- the row of (0, 1) is 84, three ends, smallest 2
-  pub job-ends : {answer : EndsAnswer} {words′ depths′ : List ℕ} → EndsOutcome jobBytes jobLine 0 1 words depths answer words′ depths′ → answer ≡ ends.Row 84 3 2
+  -- the row of (0, 1) is 84: three ends, the smallest 2 and the largest 6
+  pub job-ends : {answer : EndsAnswer} {words′ depths′ : List ℕ} → EndsOutcome jobBytes jobLine 0 1 words depths answer words′ depths′ → answer ≡ ends.Row 84 3 2 6
   unfolding jobLine
   job-ends o =
       let e = ends-answered jobBytes jobLine words depths jobSections 0 1 start-passes o in
-      let row = row-is jobGrammar jobLine job-proper 0 1 (e .0) (rw job-grammar at (e .3)) 84 (omega arith) job-row in
-      let smallest = first-unique 84 (e .1) 2 (rw row at (e .4)) job-smallest in
-      e .2 ∙ rw (row, smallest, job-count)
+      let row = row-is jobGrammar jobLine job-proper 0 1 (e .0) (rw job-grammar at (e .4)) 84 (omega arith) job-row in
+      let both = both-ends-unique (rw row at (e .5)) job-both in
+      e .3 ∙ rw (row, both .0, both .1, job-count)

@@ -8,7 +8,7 @@ use Rattle.refusals.specs.declared.Check.the-variants as check
 use Rattle.refusals.specs.Order.{early}
 use Rattle.refusals.specs.Told as told
 use Rattle.positions.specs.Count.{countBelow}
-use Rattle.positions.specs.First.{First}
+use Rattle.positions.specs.BothEnds.{BothEnds}
 use Rattle.derivation.specs.computed.FactCount.{total}
 use Rattle.derivation.specs.computed.Facts.{factList}
 use Rattle.derivation.proofs.Facts.{length-factList, factList-is}
@@ -36,19 +36,19 @@ module _ (g line words depths : List ℕ) where
   ends-turned A i refusal e = ends-outcome.turnedDown {refusal = refusal} (rw e) refl refl refl
 
   pub ends-found :
-      (s : Sections) (A i smallest : ℕ) (words′ depths′ : List ℕ) → Passes g line (Start A i) (length words) (length depths) s → A < s .categories → i ≤ length line →
-      WorkFilled (grammarOf g s) line words depths words′ depths′ → First (getD words′ (A * (length line + 1) + i) 0) smallest →
+      (s : Sections) (A i smallest largest : ℕ) (words′ depths′ : List ℕ) → Passes g line (Start A i) (length words) (length depths) s → A < s .categories → i ≤ length line →
+      WorkFilled (grammarOf g s) line words depths words′ depths′ → BothEnds (getD words′ (A * (length line + 1) + i) 0) smallest largest →
       let row = getD words′ (A * (length line + 1) + i) 0 in
-      EndsOutcome g line A i words depths (ends.Row row (countBelow 64 row) smallest) words′ depths′
-  ends-found s A i smallest words′ depths′ passes a l filled first =
+      EndsOutcome g line A i words depths (ends.Row row (countBelow 64 row) smallest largest) words′ depths′
+  ends-found s A i smallest largest words′ depths′ passes a l filled both =
       let row = getD words′ (A * (length line + 1) + i) 0 in
       let same = grammar-is passes in
-      ends-outcome.found {row = row} {count = countBelow 64 row} {smallest = smallest}
+      ends-outcome.found {row = row} {count = countBelow 64 row} {smallest = smallest} {largest = largest}
       (rw (early-passed words depths check.Passed check.Passed passes))
       refl
       (rw same (filled .word A i (rw (category-count g s (sections passes)) a) l))
       refl
-      first
+      both
       (rw same filled)
 
   pub chart-filled :

@@ -6,7 +6,7 @@ use lib.ListN.{length}
 use Rattle.refusals.specs.Told as told
 use Rattle.positions.specs.Count.{countBelow}
 use Rattle.positions.proofs.Members.{same-members}
-use Rattle.positions.proofs.Unique.{first-unique}
+use Rattle.positions.proofs.Unique.{both-ends-unique}
 use Rattle.derivation.proofs.Rounds.{rounds-unique}
 use Rattle.derivation.proofs.Facts.{facts-unique}
 use Rattle.checks.proofs.Laws.{one-refusal, not-both}
@@ -26,8 +26,8 @@ pub chart-told : (a : ChartAnswer) {rounds facts : ℕ} → chartTold a ≡ told
 chart-told (chart.Filled x y) e = cc
 chart-told (chart.Refused refusal) e = cc
 
-pub ends-told : (a : EndsAnswer) {row count smallest : ℕ} → endsTold a ≡ told.answered (row ∷ count ∷ smallest ∷ []) → a ≡ ends.Row row count smallest
-ends-told (ends.Row x y z) e = cc
+pub ends-told : (a : EndsAnswer) {row count smallest largest : ℕ} → endsTold a ≡ told.answered (row ∷ count ∷ smallest ∷ largest ∷ []) → a ≡ ends.Row row count smallest largest
+ends-told (ends.Row x y z w) e = cc
 ends-told (ends.Refused refusal) e = cc
 
 module _ (g line words depths : List ℕ) where
@@ -46,11 +46,11 @@ module _ (g line words depths : List ℕ) where
       EndsOutcome g line A i words depths a w d → EndsOutcome g line A i words depths b x e → (a ≡ b) × (w ≡ x) × (d ≡ e)
   ends-outcome-unique A i (ends-outcome.turnedDown p a w d) (ends-outcome.turnedDown q b x e) =
       (a ∙ ap ends.Refused (one-refusal p q) ∙ sym b, w ∙ sym x, d ∙ sym e)
-  ends-outcome-unique A i (ends-outcome.turnedDown p a w d) (found q t′ m c f y) = absurd (not-both p q)
-  ends-outcome-unique A i (found p t m c f y) (ends-outcome.turnedDown q b x e) = absurd (not-both q p)
-  ends-outcome-unique A i {a} {b} (found p t m c f y) (found q t′ m′ c′ f′ y′) =
+  ends-outcome-unique A i (ends-outcome.turnedDown p a w d) (found q t′ m c o y) = absurd (not-both p q)
+  ends-outcome-unique A i (found p t m c o y) (ends-outcome.turnedDown q b x e) = absurd (not-both q p)
+  ends-outcome-unique A i {a} {b} (found p t m c o y) (found q t′ m′ c′ o′ y′) =
       let memory = filled-unique (grammarGiven g) line words depths y y′ in
       let row = same-members _ _ (λ j. (λ h. m′ j .1 (m j .0 h), λ h. m j .1 (m′ j .0 h))) in
       let count = c ∙ ap (countBelow 64) row ∙ sym c′ in
-      let smallest = first-unique _ _ _ f (rw (← row) at f′) in
-      (ends-told a t ∙ rw (row, count, smallest) (sym (ends-told b t′)), memory .0, memory .1)
+      let both = both-ends-unique o (rw (← row) at o′) in
+      (ends-told a t ∙ rw (row, count, both .0, both .1) (sym (ends-told b t′)), memory .0, memory .1)

@@ -54,10 +54,10 @@ module _ {words depths : List ℕ} (memory : JobMemory words depths) where
   pub invents-depths : {answer : ChartAnswer} {words′ depths′ : List ℕ} → (getD depths′ (1 * 7 + 6) 0 ≡ 3 → ⊥) → ChartOutcome jobBytes jobLine words depths answer words′ depths′ → ⊥
   invents-depths wrong o = wrong (job-outcome memory o .2)
 
-  -- and of the ends of (0, 1): it refuses everything, or invents the row, the number of ends or the smallest
+  -- and of the ends of (0, 1): it refuses everything, or invents the row, the number of ends, the smallest or the largest
   pub refuses-every-end : {refusal : Refusal} {words′ depths′ : List ℕ} → EndsOutcome jobBytes jobLine 0 1 words depths (ends.Refused refusal) words′ depths′ → ⊥
   refuses-every-end o = let e = job-ends memory o in let z : _≡_ {A = ℕ} 0 1 = cc in omega arith
 
-  pub invents-ends : {row count smallest : ℕ} {words′ depths′ : List ℕ} → ((row ≡ 84) × (count ≡ 3) × (smallest ≡ 2) → ⊥) →
-      EndsOutcome jobBytes jobLine 0 1 words depths (ends.Row row count smallest) words′ depths′ → ⊥
-  invents-ends wrong o = let e = job-ends memory o in wrong (cc, cc, cc)
+  pub invents-ends : {row count smallest largest : ℕ} {words′ depths′ : List ℕ} → ((row ≡ 84) × (count ≡ 3) × (smallest ≡ 2) × (largest ≡ 6) → ⊥) →
+      EndsOutcome jobBytes jobLine 0 1 words depths (ends.Row row count smallest largest) words′ depths′ → ⊥
+  invents-ends wrong o = let e = job-ends memory o in wrong (cc, cc, cc, cc)

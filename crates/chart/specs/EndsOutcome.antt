@@ -9,7 +9,7 @@ use Rattle.refusals.specs.Order.{reported}
 use Rattle.refusals.specs.Told as told
 use Rattle.positions.specs.Member.{Member}
 use Rattle.positions.specs.Count.{countBelow}
-use Rattle.positions.specs.First.{First}
+use Rattle.positions.specs.BothEnds.{BothEnds}
 use Rattle.derivation.specs.Fact.{Fact}
 use Rattle.grammar.specs.Given.{grammarGiven}
 use Rattle.filling.specs.Filled.{WorkFilled}
@@ -24,10 +24,10 @@ pub data EndsOutcome (g line : List ℕ) (A i : ℕ) (words depths : List ℕ) (
       reported (endsChecks g line A i words depths) ≡ check.Refused refusal →
       answer ≡ ends.Refused refusal → words′ ≡ words → depths′ ≡ depths →
       EndsOutcome g line A i words depths answer words′ depths′
-  -- the row of (A, i), the number of its ends and the smallest are told, and the work memory is filled
-  found : {row count smallest : ℕ} →
+  -- the row of (A, i), the number of its ends, the smallest and the largest are told, and the work memory is filled
+  found : {row count smallest largest : ℕ} →
       reported (endsChecks g line A i words depths) ≡ check.Passed →
-      endsTold answer ≡ told.answered (row ∷ count ∷ smallest ∷ []) →
-      ((j : ℕ) → Member row j ↔ Fact (grammarGiven g) line A i j) → count ≡ countBelow 64 row → First row smallest →
+      endsTold answer ≡ told.answered (row ∷ count ∷ smallest ∷ largest ∷ []) →
+      ((j : ℕ) → Member row j ↔ Fact (grammarGiven g) line A i j) → count ≡ countBelow 64 row → BothEnds row smallest largest →
       WorkFilled (grammarGiven g) line words depths words′ depths′ →
       EndsOutcome g line A i words depths answer words′ depths′

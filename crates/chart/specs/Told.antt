@@ -19,9 +19,9 @@ abbrev pub chartTold : ChartAnswer → Told
 chartTold (chart.Filled rounds facts) = answered (rounds ∷ facts ∷ [])
 chartTold (chart.Refused refusal) = refused (rowOf refusal)
 
--- the row, how many ends it shows, the smallest
+-- the row, how many ends it shows, the smallest, the largest
 abbrev pub endsTold : EndsAnswer → Told
-endsTold (ends.Row row count smallest) = answered (row ∷ count ∷ smallest ∷ [])
+endsTold (ends.Row row count smallest largest) = answered (row ∷ count ∷ smallest ∷ largest ∷ [])
 endsTold (ends.Refused refusal) = refused (rowOf refusal)
 
 -- the first refusal of those that change no memory, or else T, N and P

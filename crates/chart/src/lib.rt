@@ -15,9 +15,14 @@ pub enum ChartAnswer {
     Refused(Refusal),
 }
 
-// What the question of the ends of (A, i) answers: the row, how many ends it shows, and the smallest, 64 for none.
+// What the question of the ends of (A, i) answers: the row, how many ends it shows, the smallest and the largest, NO_END for both where there is none.
 pub enum EndsAnswer {
-    Row { row: u64, ends: u32, smallest: u32 },
+    Row {
+        row: u64,
+        ends: u32,
+        smallest: u32,
+        largest: u32,
+    },
     Refused(Refusal),
 }
 
@@ -60,9 +65,11 @@ pub fn ends(
     };
     fill(g, s, line, words, depths);
     let row = words[category * (line.len() + 1) + start];
+    let both = positions::both_ends(row);
     EndsAnswer::Row {
         row,
         ends: positions::count(row),
-        smallest: positions::first(row),
+        smallest: both.smallest,
+        largest: both.largest,
     }
 }

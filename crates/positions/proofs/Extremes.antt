@@ -1,14 +1,16 @@
--- The zeros below the lowest digit of a word give its first position, and those above the highest its last.
-use mathlib.Core.Path.{_≡_, sym, ap, _∙_}
+-- The zeros below the lowest digit of a word give its first position, those above the highest its last, and so both ends.
+use mathlib.Core.Path.{_≡_, refl, sym, ap, _∙_}
 use mathlib.Core.Logic.{⊎-elim, _↔_}
-use Prim.Native.Nat.{ℕ, zero, suc, _-_, _/_, _^_, _<_}
+use Prim.Native.Nat.{ℕ, zero, suc, _-_, _/_, _^_, _≤_, _<_}
+use native.Mathlib.Nat.{zero-lt-suc}
 use native.Mathlib.Omega.{arith}
 use lib.Count.{trailingZeros, leadingZeros, under, trailing-le, leading-top}
 use Rattle.positions.specs.Member.{digit, Member}
 use Rattle.positions.specs.First.{First}
 use Rattle.positions.specs.Last.{Last}
+use Rattle.positions.specs.BothEnds.{noEnd, BothEnds, some, none}
 use Rattle.positions.proofs.Digits.{digit-zero, digit-suc, digit-top}
-use Rattle.positions.proofs.Members.{member?, no-digit, member-below, empty-word}
+use Rattle.positions.proofs.Members.{member?, no-digit, none-member, member-below, empty-word}
 
 -- without position 0 there is one zero more than below the half, and with it none
 trailing-even : (k n : ℕ) → digit n zero ≡ 0 → trailingZeros (suc k) n ≡ suc (trailingZeros k (n / 2))
@@ -53,3 +55,41 @@ last-leading x p h =
       found = rw e (digit-top x (t .0) (t .2) (t .3));
       noneAbove = λ j l m. omega (arith, member-below x (suc (t .0)) j (t .3) m);
     }
+
+-- both ends of the empty set, and of a set with a first and a last position
+pub both-none : BothEnds 0 noEnd noEnd
+both-none = none none-member refl refl
+
+pub both-some : (set r s : ℕ) → 0 < set → set < 2 ^ 64 → First set r → Last set s → BothEnds set r s
+both-some set r s positive fits f l =
+    let n : r ≡ 64 → ⊥ = λ e. omega (arith, first-empty set r fits f .0 e) in
+    some (f .found (omega (arith, f .within))) (l .found) (λ j m. (notBelow j m, notAbove j m))
+  where
+    notBelow : (j : ℕ) → Member set j → r ≤ j
+    notBelow j m = let n : j < r → ⊥ = λ b. f .noneBelow j b m in omega arith
+
+    notAbove : (j : ℕ) → Member set j → j ≤ s
+    notAbove j m = let n : s < j → ⊥ = λ b. l .noneAbove j b m in omega arith
+
+-- both ends of a word, computed
+unfoldable pub smallestOf : ℕ → ℕ
+smallestOf zero = noEnd
+smallestOf (suc x) = trailingZeros 64 (suc x)
+
+unfoldable pub largestOf : ℕ → ℕ
+largestOf zero = noEnd
+largestOf (suc x) = 63 - leadingZeros 64 (suc x)
+
+pub both-computed : (set : ℕ) → set < 2 ^ 64 → BothEnds set (smallestOf set) (largestOf set)
+unfolding smallestOf largestOf
+both-computed zero fits = both-none
+both-computed (suc x) fits = both-some (suc x) _ _ (zero-lt-suc x) fits (first-trailing (suc x)) (last-leading (suc x) (zero-lt-suc x) fits)
+
+-- an end of 255, the smallest or the largest, is for the empty set alone
+pub both-empty : (set smallest largest : ℕ) → set < 2 ^ 64 → BothEnds set smallest largest →
+    ((smallest ≡ noEnd) ↔ ((j : ℕ) → Member set j → ⊥)) × ((largest ≡ noEnd) ↔ ((j : ℕ) → Member set j → ⊥))
+both-empty set smallest largest fits (some s l between) = (
+  (λ e. absurd (omega (arith, member-below set 64 smallest fits s)), λ n. absurd (n smallest s)),
+  (λ e. absurd (omega (arith, member-below set 64 largest fits l)), λ n. absurd (n largest l)),
+)
+both-empty set smallest largest fits (none n s l) = ((λ e. n, λ m. s), (λ e. n, λ m. l))

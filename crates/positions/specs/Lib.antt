@@ -4,5 +4,6 @@ pub mod With
 pub mod Count
 pub mod First
 pub mod Last
+pub mod BothEnds
 pub mod Union
 pub mod AfterClass

@@ -8,6 +8,7 @@ ghost use Rattle.positions.specs.With.{With};
 ghost use Rattle.positions.specs.Count.{countBelow};
 ghost use Rattle.positions.specs.First.{First};
 ghost use Rattle.positions.specs.Last.{Last};
+ghost use Rattle.positions.specs.BothEnds.{BothEnds};
 ghost use Rattle.positions.specs.Union.{Union};
 ghost use Rattle.positions.specs.AfterClass.{AfterClass};
 
@@ -47,6 +48,31 @@ pub fn last(set: u64) -> u32
     ensures { λ r. ⌜ Last set r ⌝ }
 {
     63 - u64::leading_zeros(set)
+}
+
+// What stands for an end where a set has no position.
+pub const NO_END: u32 = 255;
+
+// The smallest and the largest position of a set.
+pub struct Ends {
+    pub smallest: u32,
+    pub largest: u32,
+}
+
+// The smallest and the largest position of the set, and NO_END for both where it is empty.
+pub fn both_ends(set: u64) -> Ends
+    ensures { λ r. ⌜ BothEnds set (r .smallest) (r .largest) ⌝ }
+{
+    if set == 0 {
+        return Ends {
+            smallest: NO_END,
+            largest: NO_END,
+        };
+    }
+    Ends {
+        smallest: first(set),
+        largest: last(set),
+    }
 }
 
 // The union of the rows base + m over the members m of the set, from ≤ m < width.

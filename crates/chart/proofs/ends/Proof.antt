@@ -62,7 +62,7 @@ returns-2 c =
     let f = filled (c .before .before .before) in
     let s = asked f in
     let i = inside s in
-    rw (c .before .count .ensures) (ends-found _ _ _ _ _ _ _ _ _ _ (passes s) (i .0) (i .1) (f .fill .ensures .work) (c .first .ensures))
+    rw (c .count .ensures) (ends-found _ _ _ _ _ _ _ _ _ _ _ (passes s) (i .0) (i .1) (f .fill .ensures .work) (c .before .both-ends .ensures))
 
 pub ends-spec : {M : Type 1} → statement M
 ends-spec =
