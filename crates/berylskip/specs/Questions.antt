@@ -17,7 +17,7 @@ use Rattle.berylskip.specs.Exported.{Exported, Numbers}
 abbrev pub ChartExported : (g line words depths values : List ℕ) (place : ℕ) (words′ depths′ : List ℕ) → Numbers → Type 0
 ChartExported g line words depths values place words′ depths′ = Exported (λ answer. ChartOutcome g line words depths answer words′ depths′) chartTold values place
 
--- the row, how many ends it shows, the smallest
+-- the row, how many ends it shows, the smallest, the largest
 abbrev pub EndsExported : (g line : List ℕ) (A i : ℕ) (words depths values : List ℕ) (place : ℕ) (words′ depths′ : List ℕ) → Numbers → Type 0
 EndsExported g line A i words depths values place words′ depths′ = Exported (λ answer. EndsOutcome g line A i words depths answer words′ depths′) endsTold values place
 

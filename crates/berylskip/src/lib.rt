@@ -56,7 +56,7 @@ pub extern "C" fn berylskip_chart_nonnull(
     }
 }
 
-// Ends of (A, i): the row, how many ends it shows, and the smallest, 64 for none.
+// Ends of (A, i): the row, how many ends it shows, the smallest and the largest, 255 for both where there is none.
 #[no_mangle]
 pub extern "C" fn berylskip_ends_nonnull(
     g: &[u8],
@@ -68,12 +68,13 @@ pub extern "C" fn berylskip_ends_nonnull(
     row: &mut u64,
     ends: &mut u32,
     smallest: &mut u32,
+    largest: &mut u32,
     place: &mut usize,
 ) -> u8
     ensures { λ r. ⌜
         EndsExported (now (g .entry)) (now (line .entry)) category start
-        (now (words .entry)) (now (depths .entry)) (now (row .entry) ∷ now (ends .entry) ∷ now (smallest .entry) ∷ []) (now (place .entry))
-        (now (words .exit)) (now (depths .exit)) (numbers r (now (row .exit) ∷ now (ends .exit) ∷ now (smallest .exit) ∷ []) (now (place .exit)))
+        (now (words .entry)) (now (depths .entry)) (now (row .entry) ∷ now (ends .entry) ∷ now (smallest .entry) ∷ now (largest .entry) ∷ []) (now (place .entry))
+        (now (words .exit)) (now (depths .exit)) (numbers r (now (row .exit) ∷ now (ends .exit) ∷ now (smallest .exit) ∷ now (largest .exit) ∷ []) (now (place .exit)))
         ⌝ }
 {
     match chart::ends(g, line, category, start, words, depths) {
@@ -82,10 +83,12 @@ pub extern "C" fn berylskip_ends_nonnull(
             row: w,
             ends: e,
             smallest: s,
+            largest: l,
         } => {
             *row = w;
             *ends = e;
             *smallest = s;
+            *largest = l;
             0
         }
     }

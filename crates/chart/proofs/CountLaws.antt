@@ -1,5 +1,5 @@
--- The number of ends that a filled chart shows is the number of facts.
-use Prim.Native.Nat.{ℕ, zero, suc, _+_, _-_, _*_, _≤_, _<_}
+-- A row that shows the ends of (A, i): its digits, its size; and the number of ends that a filled chart shows, which is the number of facts.
+use Prim.Native.Nat.{ℕ, zero, suc, _+_, _-_, _*_, _^_, _≤_, _<_}
 use mathlib.Core.Path.{_≡_, refl, ap, _∙_}
 use mathlib.Core.Logic.{_↔_}
 use mathlib.Core.Bool.{Bool, true, false, cond, false≢true}
@@ -10,7 +10,7 @@ use native.Mathlib.Omega.{arith}
 use lib.ListN.{length, getD}
 use Rattle.positions.specs.Member.{digit, Member}
 use Rattle.positions.specs.Count.{countBelow}
-use Rattle.positions.proofs.Members.{no-digit}
+use Rattle.positions.proofs.Members.{no-digit, word-below}
 use Rattle.derivation.specs.Grammar.{Grammar, Proper}
 use Rattle.derivation.specs.Fact.{Fact}
 use Rattle.derivation.specs.computed.Facts.{facts}
@@ -31,6 +31,10 @@ count-total (suc k) x = ap (λ (y : ℕ). y + digit x k) (count-total k x)
 pub digit-test : (x j : ℕ) (b : Bool) → (Member x j → b ≡ true) → (b ≡ true → Member x j) → digit x j ≡ cond b 1 0
 digit-test x j true to from = from refl
 digit-test x j false to from = no-digit x j (λ m. false≢true (to m))
+
+-- a word that shows the ends of (A, i) on a line of at most 63 tokens has 64 digits
+pub row-fits : (G : Grammar) (line : List ℕ) (A i word : ℕ) → length line ≤ 63 → ((j : ℕ) → Member word j ↔ Fact G line A i j) → word < 2 ^ 64
+row-fits G line A i word short shows = word-below word 64 (λ j m. omega (arith, tree-inside (shows j .0 m) .ends))
 
 -- the digits of a word that shows the ends of (A, i) are the computed facts
 module _ (G : Grammar) (line : List ℕ) (proper : Proper G) (A i word : ℕ) (shows : (j : ℕ) → Member word j ↔ Fact G line A i j) where

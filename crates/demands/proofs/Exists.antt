@@ -6,7 +6,6 @@ use mathlib.Core.List.{List, [], _∷_, _++_, map}
 use native.Mathlib.Decide.{decLt}
 use native.Mathlib.Omega.{arith}
 use lib.ListN.{length, getD, drop}
-use lib.Count.{trailingZeros}
 use borrow.Author.Tests.{lt-ltb, le-ltb}
 use Rattle.refusals.specs.declared.Refusal.{Refusal}
 use Rattle.refusals.specs.declared.Refusal.the-variants.{MarksTooSmall, ForestTooSmall, TreeOfNoFact, TreeTooSmall}
@@ -15,7 +14,7 @@ use Rattle.refusals.specs.declared.Check.the-variants as check
 use Rattle.refusals.specs.Row.{rowOf}
 use Rattle.refusals.specs.Told.{answered, refused}
 use Rattle.positions.specs.Count.{countBelow}
-use Rattle.positions.proofs.Extremes.{first-trailing}
+use Rattle.positions.proofs.Extremes.{smallestOf, largestOf, both-computed}
 use Rattle.derivation.specs.Grammar.{Grammar, Proper}
 use Rattle.derivation.specs.Tree.{Tree, height}
 use Rattle.derivation.specs.Fact.{Fact}
@@ -39,6 +38,7 @@ use Rattle.chart.specs.declared.EndsAnswer.the-variants as ends-answer
 use Rattle.chart.specs.ChartOutcome as chart-outcome
 use Rattle.chart.specs.EndsOutcome as ends-outcome
 use Rattle.chart.proofs.CheckLaws.{early-proper}
+use Rattle.chart.proofs.CountLaws.{row-fits}
 use Rattle.chart.proofs.OutcomeLaws.{chart-turned, ends-turned}
 use Rattle.marks.specs.declared.MarksAnswer.the-variants as marks-answer
 use Rattle.marks.specs.Marks.{MarksAre}
@@ -86,10 +86,12 @@ module _ (x : Input) {words′ depths′ : List ℕ} (filled : WorkFilled (gramm
 
     ends-exists : (A i : ℕ) → first x (ends A i) ≡ check.Passed → (r : Result (ends A i)) × Allowed x (ends A i) r
     ends-exists A i e =
-        let a = all-right x (ends A i) e .asked in
-        let row = getD words′ (A * (length (x .line) + 1) + i) 0 in (
-          record { told = answered (row ∷ countBelow 64 row ∷ trailingZeros 64 row ∷ []); words = words′; depths = depths′; row = tt },
-          (ends-answer.Row row (countBelow 64 row) (trailingZeros 64 row), refl, ends-outcome.found (rw e) refl (filled .word A i (a 0 (omega arith) .category refl) (a 1 (omega arith) .start refl)) refl (first-trailing row) filled),
+        let right = all-right x (ends A i) e in
+        let row = getD words′ (A * (length (x .line) + 1) + i) 0 in
+        let shows = filled .word A i (right .asked 0 (omega arith) .category refl) (right .asked 1 (omega arith) .start refl) in
+        let both = both-computed row (row-fits G (x .line) A i row (right .line .short) shows) in (
+          record { told = answered (row ∷ countBelow 64 row ∷ smallestOf row ∷ largestOf row ∷ []); words = words′; depths = depths′; row = tt },
+          (ends-answer.Row row (countBelow 64 row) (smallestOf row) (largestOf row), refl, ends-outcome.found (rw e) refl shows refl both filled),
         )
 
     marks-are : (row : List ℕ) → length (x .line) ≤ length row → MarksAre G (x .line) row (overwritten (computed.marks G (x .line)) row) (total (λ t. getD (overwritten (computed.marks G (x .line)) row) t 0) (length (x .line)))

@@ -7,6 +7,7 @@ use native.Mathlib.Omega.{arith}
 use lib.ListN.{length, getD}
 use Rattle.refusals.specs.Told.{Told, answered}
 use Rattle.positions.specs.Member.{Member}
+use Rattle.positions.proofs.Extremes.{both-empty}
 use Rattle.derivation.specs.Grammar.{Grammar}
 use Rattle.derivation.specs.Fact.{Fact}
 use Rattle.derivation.specs.Secret.{Secret, byClass, byFact}
@@ -18,6 +19,7 @@ use Rattle.grammar.specs.Given.{grammarGiven}
 use Rattle.chart.specs.Told.{chartTold, endsTold}
 use Rattle.chart.specs.ChartOutcome as chart-outcome
 use Rattle.chart.specs.EndsOutcome as ends-outcome
+use Rattle.chart.proofs.CountLaws.{row-fits}
 use Rattle.marks.specs.Told.{marksTold}
 use Rattle.marks.specs.Marks.{MarkIs, marked, unmarked}
 use Rattle.marks.specs.Outcome as marks-outcome
@@ -98,21 +100,27 @@ module _ {G : Grammar} {x : Input} where
           (rounds, facts, one-told told (sym tells ∙ t), facts-derived report facts (rw (given-is (report .grammar)) at f))
 
   pub ends-shown : {A i : ℕ} {r : Result (ends A i)} → Reports G x (ends A i) r → (values : List ℕ) → r .told ≡ answered values →
-      (row : ℕ) × (count : ℕ) × (smallest : ℕ) × (values ≡ row ∷ count ∷ smallest ∷ []) × ShowsEnds G (x .line) A i row count smallest
+      (row : ℕ) × (count : ℕ) × (smallest : ℕ) × (largest : ℕ) × (values ≡ row ∷ count ∷ smallest ∷ largest ∷ []) × ShowsEnds G (x .line) A i row count smallest largest
   ends-shown {A} {i} {r} report values told = go (report .allowed)
     where
-      go : Allowed x (ends A i) r → (row : ℕ) × (count : ℕ) × (smallest : ℕ) × (values ≡ row ∷ count ∷ smallest ∷ []) × ShowsEnds G (x .line) A i row count smallest
+      go : Allowed x (ends A i) r →
+          (row : ℕ) × (count : ℕ) × (smallest : ℕ) × (largest : ℕ) × (values ≡ row ∷ count ∷ smallest ∷ largest ∷ []) × ShowsEnds G (x .line) A i row count smallest largest
       go (answer, tells, ends-outcome.turnedDown e a w d) = absurd (not-refused told (sym tells ∙ ap endsTold a))
-      go (answer, tells, ends-outcome.found {row = row} {count = count} {smallest = smallest} e t m c f y) =
-          let bits = rw (given-is (report .grammar)) at m in (
+      go (answer, tells, ends-outcome.found {row = row} {count = count} {smallest = smallest} {largest = largest} e t m c b y) =
+          let bits = rw (given-is (report .grammar)) at m in
+          let each : (j : ℕ) → Member row j ↔ Derives G (x .line) A i j = λ j. let d = fact-derives report A i j in (λ h. d .0 (bits j .0 h), λ h. bits j .1 (d .1 h)) in
+          let none = both-empty row smallest largest (row-fits G (x .line) A i row (reports-right report .line .short) bits) b in (
             row,
             count,
             smallest,
+            largest,
             one-told told (sym tells ∙ t),
             record {
-              each = λ j. let d = fact-derives report A i j in (λ b. d .0 (bits j .0 b), λ h. bits j .1 (d .1 h));
+              each = each;
               counted = c;
-              first = f;
+              both = b;
+              smallestNone = (λ q j d. none .0 .0 q j (each j .1 d), λ n. none .0 .1 (λ j h. n j (each j .0 h)));
+              largestNone = (λ q j d. none .1 .0 q j (each j .1 d), λ n. none .1 .1 (λ j h. n j (each j .0 h)));
             },
           )
 

@@ -8,7 +8,7 @@ use Rattle.refusals.specs.declared.Row.{Row}
 use Rattle.refusals.specs.Told.{Told, answered, refused}
 use Rattle.positions.specs.Member.{Member}
 use Rattle.positions.specs.Count.{countBelow}
-use Rattle.positions.specs.First.{First}
+use Rattle.positions.specs.BothEnds.{noEnd, BothEnds}
 use Rattle.derivation.specs.Grammar.{Grammar}
 use Rattle.derivation.specs.Tree.{Tree, height}
 use Rattle.derivation.specs.Fact.{Fact}
@@ -72,11 +72,13 @@ pub record Reports (G : Grammar) (x : Input) (q : Query) (r : Result q) : Type 0
   pub allowed : Allowed x q r
   pub fills : Fills (r .told)
 
--- a row that shows exactly the ends of A from i, how many they are, and the smallest
-pub record ShowsEnds (G : Grammar) (line : List ℕ) (A i row count smallest : ℕ) : Type 0 where
+-- a row that shows exactly the ends of A from i, how many they are, the smallest and the largest; either is 255 exactly where there is none
+pub record ShowsEnds (G : Grammar) (line : List ℕ) (A i row count smallest largest : ℕ) : Type 0 where
   pub each : (j : ℕ) → Member row j ↔ Derives G line A i j
   pub counted : count ≡ countBelow 64 row
-  pub first : First row smallest
+  pub both : BothEnds row smallest largest
+  pub smallestNone : (smallest ≡ noEnd) ↔ ((j : ℕ) → ¬ Derives G line A i j)
+  pub largestNone : (largest ≡ noEnd) ↔ ((j : ℕ) → ¬ Derives G line A i j)
 
 -- a mark for each token, all past them as it was, and the number of ones
 pub record ShowsMarks (G : Grammar) (line : List ℕ) (secret : ℕ) (row row′ : List ℕ) : Type 0 where
@@ -94,10 +96,11 @@ pub record Demand2 : Type 0 where
   pub facts : {G : Grammar} {x : Input} {r : Result chart} → Reports G x chart r →
       (values : List ℕ) → r .told ≡ answered values →
       (rounds : ℕ) × (facts : List Span) × (values ≡ rounds ∷ length facts ∷ []) × DerivedAre G (x .line) facts
-  -- Ends tells the row of exactly the ends of A from i, their number and the smallest
+  -- Ends tells the row of exactly the ends of A from i, their number, the smallest and the largest
   pub ends : {G : Grammar} {x : Input} {A i : ℕ} {r : Result (ends A i)} → Reports G x (ends A i) r →
       (values : List ℕ) → r .told ≡ answered values →
-      (row : ℕ) × (count : ℕ) × (smallest : ℕ) × (values ≡ row ∷ count ∷ smallest ∷ []) × ShowsEnds G (x .line) A i row count smallest
+      (row : ℕ) × (count : ℕ) × (smallest : ℕ) × (largest : ℕ) × (values ≡ row ∷ count ∷ smallest ∷ largest ∷ [])
+      × ShowsEnds G (x .line) A i row count smallest largest
   -- Marks writes a mark for each token, 1 exactly where it is secret, and tells how many are
   pub marks : {G : Grammar} {x : Input} {row : List ℕ} {r : Result (marks row)} → Reports G x (marks row) r →
       (values : List ℕ) → r .told ≡ answered values →

@@ -5,7 +5,6 @@ use mathlib.Core.Bool.{Bool, true, false, true≢false, cond}
 use mathlib.Core.List.{List, [], _∷_, map}
 use native.Mathlib.Omega.{arith}
 use lib.ListN.{length, getD, length-map}
-use lib.Count.{trailingZeros}
 use borrow.Author.Tests.{le-ltb}
 use Rattle.refusals.specs.declared.Refusal.the-variants.{TreeOfNoFact}
 use Rattle.refusals.specs.declared.Check.{Check}
@@ -14,7 +13,7 @@ use Rattle.refusals.specs.Row.{rowOf}
 use Rattle.refusals.specs.Order.{early}
 use Rattle.refusals.specs.Told.{Told, answered, refused}
 use Rattle.positions.specs.Count.{countBelow}
-use Rattle.positions.proofs.Extremes.{first-trailing}
+use Rattle.positions.proofs.Extremes.{smallestOf, largestOf, both-computed}
 use Rattle.derivation.specs.Grammar.{Grammar, Proper}
 use Rattle.derivation.specs.Node.{NodeValue, preorder}
 use Rattle.derivation.specs.Branch as derivation
@@ -49,7 +48,8 @@ use Rattle.chart.specs.declared.EndsAnswer.the-variants as ends-answer
 use Rattle.chart.specs.Checks.{checksOf}
 use Rattle.chart.specs.ChartOutcome as chart-outcome
 use Rattle.chart.specs.EndsOutcome as ends-outcome
-use Rattle.chart.proofs.CheckLaws.{Passes, early-passed}
+use Rattle.chart.proofs.CheckLaws.{Passes, line-is, early-passed}
+use Rattle.chart.proofs.CountLaws.{row-fits}
 use Rattle.marks.specs.declared.MarksAnswer.the-variants as marks-answer
 use Rattle.marks.specs.Marks.{MarksAre}
 use Rattle.marks.proofs.Unique.{length-listed, mark-computed}
@@ -120,18 +120,19 @@ module _ (g line : List ℕ) (read : readOf g ≡ Accepted (sectionsGiven g)) (i
   unfolding answerTest
   ends-holds A i told t =
       let row = wordAt facts (length line + 1) (A * (length line + 1) + i) in
-      let p = and-parts (passes (startCheck (sectionsGiven g .categories) (length line) A i)) (sameTold told (answered (row ∷ countBelow 64 row ∷ trailingZeros 64 row ∷ []))) t in
+      let p = and-parts (passes (startCheck (sectionsGiven g .categories) (length line) A i)) (sameTold told (answered (row ∷ countBelow 64 row ∷ smallestOf row ∷ largestOf row ∷ []))) t in
       let question = passes-is (startCheck (sectionsGiven g .categories) (length line) A i) (p .0) in
       let inside = start-passed (sectionsGiven g .categories) (length line) A i question in
+      let shows = word-shows g line proper facts filled A i (rw categories (inside .0)) (inside .1) in
       λ words depths lent. ends-only (
-        ends-answer.Row row (countBelow 64 row) (trailingZeros 64 row),
+        ends-answer.Row row (countBelow 64 row) (smallestOf row) (largestOf row),
         sym (told-is told _ (p .1)),
-        ends-outcome.found {row = row} {count = countBelow 64 row} {smallest = trailingZeros 64 row}
+        ends-outcome.found {row = row} {count = countBelow 64 row} {smallest = smallestOf row} {largest = largestOf row}
             (rw (passed words depths lent (Start A i) check.Passed check.Passed question))
             refl
-            (word-shows g line proper facts filled A i (rw categories (inside .0)) (inside .1))
+            shows
             refl
-            (first-trailing row)
+            (both-computed row (row-fits G line A i row (line-is (first words depths lent (Start A i) question) .short) shows))
             (work words depths lent),
       )
 

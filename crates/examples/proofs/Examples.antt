@@ -5,12 +5,13 @@ use mathlib.Core.Bool.{true, _&&_, false≢true}
 use mathlib.Core.List.{List, [], _∷_, map, flatten, List·Memᴰ, List·Memᴰ·head, List·Memᴰ·tail, List·Memᴰ·not-nil}
 use native.Mathlib.Omega.{arith}
 use lib.ListN.{length}
-use lib.Count.{trailingZeros}
+use lib.Count.{trailingZeros, leadingZeros}
 use lib.Dec.{eqb}
 use borrow.Author.Tests.{eqb-true}
 use Rattle.refusals.specs.Told.{Told}
 use Rattle.positions.specs.Member.{digit}
 use Rattle.positions.specs.Count.{countBelow}
+use Rattle.positions.proofs.Extremes.{smallestOf, largestOf}
 use Rattle.derivation.specs.Bound.{depthBound}
 use Rattle.derivation.specs.Grammar.{Grammar}
 use Rattle.derivation.specs.Tree.{node}
@@ -52,7 +53,7 @@ use Rattle.examples.proofs.AnswerLaws.{answer-holds}
 
 -- the computed test: every entry of the table passes
 pub all-pass : (line : List ℕ) (A i j b : ℕ) → all (table line A i j b) ≡ true
-unfolding table all test text lineOf spaced boundTest noFactsTest readTest turnedTest filledTest answerTest treeTest workTest rowTest placeTest writesNothing passes sameTold sameBy same every wordAt numberAt trailingZeros digit countBelow readOf sectionsOf flagsSection rulesSection rulesFrom ruleFrom eachFrom isRepeated sameRule sameSymbols grammarOf rulesAt standing lineCheck tokensFrom startCheck spanCheck roundsOf greatest factCount total facts forest passing isBranch gathered kept marks secret covered shown chosen chosenRow chosenEnd chosenRule below firstFrom depthOf depths derivation.table listed isFound seen grade round children child tokenIs some flatten
+unfolding table all test text lineOf spaced boundTest noFactsTest readTest turnedTest filledTest answerTest treeTest workTest rowTest placeTest writesNothing passes sameTold sameBy same every wordAt numberAt smallestOf largestOf trailingZeros leadingZeros digit countBelow readOf sectionsOf flagsSection rulesSection rulesFrom ruleFrom eachFrom isRepeated sameRule sameSymbols grammarOf rulesAt standing lineCheck tokensFrom startCheck spanCheck roundsOf greatest factCount total facts forest passing isBranch gathered kept marks secret covered shown chosen chosenRow chosenEnd chosenRule below firstFrom depthOf depths derivation.table listed isFound seen grade round children child tokenIs some flatten
 all-pass line A i j b = refl
 
 -- a question's entry that passes holds

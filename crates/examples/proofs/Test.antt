@@ -4,7 +4,6 @@ use mathlib.Core.Bool.{Bool, true, false, _&&_, cond}
 use mathlib.Core.List.{List, [], _∷_, map, flatten}
 use lib.ListN.{length, getD}
 use lib.Dec.{eqb, ltb}
-use lib.Count.{trailingZeros}
 use Rattle.refusals.specs.declared.Refusal.{Refusal}
 use Rattle.refusals.specs.declared.Refusal.the-variants.{TreeOfNoFact}
 use Rattle.refusals.specs.declared.Check.{Check}
@@ -13,6 +12,7 @@ use Rattle.refusals.specs.Row.{rowOf}
 use Rattle.refusals.specs.Told.{Told, answered, refused}
 use Rattle.positions.specs.Member.{digit}
 use Rattle.positions.specs.Count.{countBelow}
+use Rattle.positions.proofs.Extremes.{smallestOf, largestOf}
 use Rattle.derivation.specs.Bound.{depthBound, roundsBound}
 use Rattle.derivation.specs.Grammar.{Grammar}
 use Rattle.derivation.specs.computed.Table.{Table, entry, isFound, depths, depthOf}
@@ -106,7 +106,7 @@ module _ (g line : List ℕ) where
   answerTest facts chart told = sameTold told (answered (roundsOf G line ∷ factCount G line ∷ []))
   answerTest facts (ends A i) told =
       let row = wordAt facts width (A * width + i) in
-      passes (startCheck (sectionsGiven g .categories) (length line) A i) && sameTold told (answered (row ∷ countBelow 64 row ∷ trailingZeros 64 row ∷ []))
+      passes (startCheck (sectionsGiven g .categories) (length line) A i) && sameTold told (answered (row ∷ countBelow 64 row ∷ smallestOf row ∷ largestOf row ∷ []))
   answerTest facts (marks new) told = same new (of-line.marks G line) && sameTold told (answered (total (λ t. getD new t 0) (length line) ∷ []))
   answerTest facts (tree A i j nodes) told = passes (spanCheck (sectionsGiven g .categories) (length line) A i j) && treeTest A i j nodes told (is-fact.facts G line A i j)
   answerTest facts (forest branches) told = sameBy branchNumbers branches (records.forest G line) && sameTold told (answered (length branches ∷ []))

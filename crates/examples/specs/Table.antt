@@ -69,8 +69,8 @@ abbrev job : List Entry
 job =
     -- rounds 3 facts 6
     outcome jobGrammar jobLine chart (answered (3 ∷ 6 ∷ [])) (holding jobFacts)
-    -- the row of (0, 1) is 84, three ends, smallest 2
-    ∷ outcome jobGrammar jobLine (ends 0 1) (answered (84 ∷ 3 ∷ 2 ∷ [])) (holding jobFacts)
+    -- the row of (0, 1) is 84: three ends, the smallest 2 and the largest 6
+    ∷ outcome jobGrammar jobLine (ends 0 1) (answered (84 ∷ 3 ∷ 2 ∷ 6 ∷ [])) (holding jobFacts)
     -- marks 011111: five secret tokens
     ∷ outcome jobGrammar jobLine (marks jobMarks) (answered (5 ∷ [])) (holding jobFacts)
     -- tree 0 1 6: eight nodes
@@ -85,8 +85,8 @@ job =
 abbrev emptyLine : List Entry
 emptyLine =
     outcome jobGrammar [] chart (answered (0 ∷ 0 ∷ [])) (holding [])
-    -- an empty row, no end, smallest 64
-    ∷ outcome jobGrammar [] (ends 0 0) (answered (0 ∷ 0 ∷ 64 ∷ [])) (holding [])
+    -- an empty row: no end, 255 for the smallest and for the largest
+    ∷ outcome jobGrammar [] (ends 0 0) (answered (0 ∷ 0 ∷ 255 ∷ 255 ∷ [])) (holding [])
     ∷ outcome jobGrammar [] (marks []) (answered (0 ∷ [])) (holding [])
     ∷ outcome jobGrammar [] (tree 0 0 0 []) (refusedBy 10 0) (holding [])
     ∷ outcome jobGrammar [] (forest []) (answered (0 ∷ [])) (holding [])
