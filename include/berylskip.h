@@ -63,8 +63,8 @@ extern "C" {
 #define BERYLSKIP_NODE_TOKEN 0
 #define BERYLSKIP_NODE_RULE 1
 
-/* The smallest end of a row that has none. */
-#define BERYLSKIP_NO_END 64
+/* The smallest and the largest end of a row that has none. Every end is at most BERYLSKIP_MAX_TOKENS. */
+#define BERYLSKIP_NO_END 255
 
 /* Why a question is turned down. The comment is the place. */
 enum berylskip_refusal {
@@ -110,7 +110,8 @@ uint8_t berylskip_ends_nonnull(const uint8_t *grammar, size_t grammar_length,
                                size_t category, size_t start,
                                uint64_t *words, size_t words_length,
                                uint16_t *depths, size_t depths_length,
-                               uint64_t *row, uint32_t *ends, uint32_t *smallest, size_t *place) BERYLSKIP_NONNULL;
+                               uint64_t *row, uint32_t *ends, uint32_t *smallest, uint32_t *largest,
+                               size_t *place) BERYLSKIP_NONNULL;
 uint8_t berylskip_marks_nonnull(const uint8_t *grammar, size_t grammar_length,
                                 const uint8_t *line, size_t line_length,
                                 uint64_t *words, size_t words_length,
@@ -156,15 +157,16 @@ static inline uint8_t berylskip_chart(const uint8_t *grammar, size_t grammar_len
 
 /* Ends: the ends of the category's facts from a start.
  * Needs the work memory of chart, else 9; a category of the grammar and a start up to the number of tokens, else 8.
- * Answers the word of (category, start) (*row), how many ends it shows (*ends), and the smallest (*smallest, BERYLSKIP_NO_END
- * for none); the work memory is filled as by chart.
+ * Answers the word of (category, start) (*row), how many ends it shows (*ends), the smallest (*smallest) and the largest
+ * (*largest), both BERYLSKIP_NO_END exactly where there is none; the work memory is filled as by chart.
  * Turned down by 1 to 9 and 14; all lent memory is then as before. */
 static inline uint8_t berylskip_ends(const uint8_t *grammar, size_t grammar_length,
                                      const uint8_t *line, size_t line_length,
                                      size_t category, size_t start,
                                      uint64_t *words, size_t words_length,
                                      uint16_t *depths, size_t depths_length,
-                                     uint64_t *row, uint32_t *ends, uint32_t *smallest, size_t *place)
+                                     uint64_t *row, uint32_t *ends, uint32_t *smallest, uint32_t *largest,
+                                     size_t *place)
 {
     uint8_t byte = 0;
     uint64_t word = 0;
@@ -173,7 +175,7 @@ static inline uint8_t berylskip_ends(const uint8_t *grammar, size_t grammar_leng
     return berylskip_ends_nonnull(BERYLSKIP_LENT(grammar, grammar_length, &byte),
                                   BERYLSKIP_LENT(line, line_length, &byte), category, start,
                                   BERYLSKIP_LENT(words, words_length, &word),
-                                  BERYLSKIP_LENT(depths, depths_length, &depth), row, ends, smallest, place);
+                                  BERYLSKIP_LENT(depths, depths_length, &depth), row, ends, smallest, largest, place);
 }
 
 /* Marks: which tokens are secret.

@@ -49,13 +49,28 @@ static void look(const void *block, size_t length)
         zeros++;
 }
 
-/* One call. The answer is its last number (facts, ends, secret tokens, nodes, records), or the place of the refusal. */
+/* Whether an answer of ends tells what the row's bits show. */
+static int tells_row(uint64_t row, uint32_t ends, uint32_t smallest, uint32_t largest)
+{
+    uint32_t end, count = 0, first = BERYLSKIP_NO_END, last = BERYLSKIP_NO_END;
+
+    for (end = 0; end <= BERYLSKIP_MAX_TOKENS; end++) {
+        if ((row >> end & 1) == 0)
+            continue;
+        if (count++ == 0)
+            first = end;
+        last = end;
+    }
+    return ends == count && smallest == first && largest == last;
+}
+
+/* One call. The answer is how many there are (facts, ends, secret tokens, nodes, records), or the place of the refusal. */
 static int ask(enum question question, const struct call *c, size_t *answer)
 {
     uint64_t *words = lend(c->words, sizeof *words), row = 0;
     uint16_t *depths = lend(c->depths, sizeof *depths);
     size_t size = question == FOREST ? sizeof(struct berylskip_branch) : 1, rounds = 0, place = 0;
-    uint32_t ends = 0, smallest = 0;
+    uint32_t ends = 0, smallest = 0, largest = 0;
     void *out = lend(c->out, size);
     int refused = 0;
 
@@ -67,8 +82,12 @@ static int ask(enum question question, const struct call *c, size_t *answer)
         break;
     case ENDS:
         refused = berylskip_ends(c->grammar, c->grammar_length, c->line, c->tokens, c->category, c->start, words, c->words,
-                                 depths, c->depths, &row, &ends, &smallest, &place);
+                                 depths, c->depths, &row, &ends, &smallest, &largest, &place);
         *answer = ends;
+        if (refused == 0 && !tells_row(row, ends, smallest, largest)) {
+            printf("ends %zu %zu: %u ends from %u to %u, which the row does not show\n", c->category, c->start, ends, smallest, largest);
+            wrong++;
+        }
         break;
     case MARKS:
         refused = berylskip_marks(c->grammar, c->grammar_length, c->line, c->tokens, words, c->words, depths, c->depths,
@@ -87,6 +106,7 @@ static int ask(enum question question, const struct call *c, size_t *answer)
     look(&rounds, sizeof rounds);
     look(&row, sizeof row);
     look(&smallest, sizeof smallest);
+    look(&largest, sizeof largest);
     if (refused == 0 || refused == BERYLSKIP_TREE_OF_NO_FACT || refused == BERYLSKIP_OUTPUT_TOO_SMALL) {
         look(words, c->words * sizeof *words);
         look(depths, c->depths * sizeof *depths);
@@ -130,6 +150,16 @@ static void ask_with_less_work(const char *job, struct call c)
     }
 }
 
+/* The ends from a span's start. */
+static void ask_ends(const char *job, struct call c)
+{
+    size_t answer;
+    int refused = ask(ENDS, &c, &answer);
+
+    if (refused != BERYLSKIP_NUMBER_OUTSIDE)
+        expect(job, "ends", refused, 0);
+}
+
 /* The tree of a span: with much room, then with its own, then with a byte less. */
 static void ask_tree(const char *job, struct call c)
 {
@@ -160,7 +190,7 @@ static void ask_all(const char *job, struct call c, const uint8_t *spans, size_t
         return;
     }
     ask_with_less_work(job, c);
-    expect(job, "ends", ask(ENDS, &c, &answer), 0);
+    ask_ends(job, c);
     c.out = c.tokens;
     expect(job, "marks", ask(MARKS, &c, &answer), 0);
     if (c.out-- > 0)
@@ -178,6 +208,7 @@ static void ask_all(const char *job, struct call c, const uint8_t *spans, size_t
         c.category = spans[3 * i];
         c.start = spans[3 * i + 1];
         c.end = spans[3 * i + 2];
+        ask_ends(job, c);
         ask_tree(job, c);
     }
 }

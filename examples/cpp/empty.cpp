@@ -18,7 +18,7 @@ static void ask(const char *what, Lent lent)
     std::vector<berylskip_branch> rows;
     std::size_t rounds = 0, facts = 0, secret = 0, nodes = 0, records = 0, place = 0;
     uint64_t row = 0;
-    uint32_t ends = 0, smallest = 0;
+    uint32_t ends = 0, smallest = 0, largest = 0;
     const Lent &of = lent;
     int refused;
 
@@ -30,8 +30,9 @@ static void ask(const char *what, Lent lent)
     std::printf("chart %d place %zu rounds %zu facts %zu\n", refused, place, rounds, facts);
     place = 0;
     refused = berylskip_ends(of.grammar.data(), of.grammar.size(), of.line.data(), of.line.size(), 0, 0, lent.words.data(),
-                             lent.words.size(), lent.depths.data(), lent.depths.size(), &row, &ends, &smallest, &place);
-    std::printf("ends %d place %zu ends %u smallest %u\n", refused, place, ends, smallest);
+                             lent.words.size(), lent.depths.data(), lent.depths.size(), &row, &ends, &smallest, &largest,
+                             &place);
+    std::printf("ends %d place %zu ends %u smallest %u largest %u\n", refused, place, ends, smallest, largest);
     place = 0;
     refused = berylskip_marks(of.grammar.data(), of.grammar.size(), of.line.data(), of.line.size(), lent.words.data(),
                               lent.words.size(), lent.depths.data(), lent.depths.size(), marks.data(), marks.size(),

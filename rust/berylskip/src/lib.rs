@@ -21,12 +21,17 @@ pub struct Chart {
     pub facts: usize,
 }
 
-/// The row of (A, i), with bit j set for each fact (A, i, j), how many ends it shows, and the smallest, 64 for none.
+/// The smallest and the largest end of a row that has none; every end is at most 63.
+pub const NO_END: u32 = 255;
+
+/// The row of (A, i), with bit j set for each fact (A, i, j), how many ends it shows, the smallest and the largest, both [`NO_END`]
+/// exactly where there is none.
 #[derive(Clone, Copy, Debug, PartialEq, Eq)]
 pub struct Ends {
     pub row: u64,
     pub ends: u32,
     pub smallest: u32,
+    pub largest: u32,
 }
 
 /// A record of the forest: the first place - 1 symbols of the rule derive start..middle, and the symbol at the place middle..end.
@@ -100,7 +105,7 @@ pub fn ends(
     words: &mut [u64],
     depths: &mut [u16],
 ) -> Result<Ends, Refused> {
-    let (mut row, mut ends, mut smallest, mut place) = (0, 0, 0, 0);
+    let (mut row, mut ends, mut smallest, mut largest, mut place) = (0, 0, 0, 0, 0);
     // SAFETY: as in `chart`.
     let number = unsafe {
         raw::berylskip_ends_nonnull(
@@ -117,6 +122,7 @@ pub fn ends(
             &mut row,
             &mut ends,
             &mut smallest,
+            &mut largest,
             &mut place,
         )
     };
@@ -127,6 +133,7 @@ pub fn ends(
             row,
             ends,
             smallest,
+            largest,
         },
     )
 }

@@ -30,6 +30,7 @@ extern "C" {
         row: &mut u64,
         ends: &mut u32,
         smallest: &mut u32,
+        largest: &mut u32,
         place: &mut usize,
     ) -> u8;
 

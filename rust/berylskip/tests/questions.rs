@@ -1,6 +1,7 @@
 //! Each question of the document's job, and a refusal of each with what memory then holds.
 use berylskip::{
     chart, depths_needed, ends, forest, marks, tree, words_needed, Branch, Chart, Ends, Refused,
+    NO_END,
 };
 
 const GRAMMAR: &[u8] = &[3, 0, 0, 0, 1, 1, 2, 0, 3, 128, 1, 0, 0, 1, 0];
@@ -161,15 +162,41 @@ fn ends_of_the_job() {
         row: 84,
         ends: 3,
         smallest: 2,
+        largest: 6,
     };
     assert_eq!(ends(GRAMMAR, LINE, 0, 1, &mut words, &mut depths), Ok(row));
     assert_eq!((words, depths), filled());
     let none = Ends {
         row: 0,
         ends: 0,
-        smallest: 64,
+        smallest: 255,
+        largest: 255,
     };
     assert_eq!(ends(GRAMMAR, LINE, 0, 0, &mut words, &mut depths), Ok(none));
+    assert_eq!(NO_END, 255);
+}
+
+#[test]
+fn ends_0_and_63() {
+    // A → A 0 and A → empty: every end from the start on
+    let grammar = [1, 0, 1, 0, 2, 0, 2, 128, 0, 0, 0];
+    let mut words = [9; 64];
+    let mut depths = [9; 64 * 64];
+    for (line, start, row, count, smallest, largest) in [
+        (&[0; 63][..], 0, u64::MAX, 64, 0, 63),
+        (&[0; 63], 63, 1 << 63, 1, 63, 63),
+        (&[], 0, 1, 1, 0, 0),
+    ] {
+        assert_eq!(
+            ends(&grammar, line, 0, start, &mut words, &mut depths),
+            Ok(Ends {
+                row,
+                ends: count,
+                smallest,
+                largest,
+            })
+        );
+    }
 }
 
 #[test]

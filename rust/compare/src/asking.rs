@@ -81,7 +81,7 @@ impl<'a> Asker<'a> {
             Ok(trees) => question.outcome(trees, span, expected.lent()),
         };
         let is = (question.library)(grammar.read(), line.read(), span, actual.lent());
-        self.tally.add_call(question, should.err());
+        self.tally.add_call(question, &should);
         let difference = if is != should {
             Some(format!("the outcome is {is:?}, expected {should:?}"))
         } else {

@@ -1,7 +1,8 @@
 //! What document 01 says of its examples in words, held against the reference; what it prints of them stands in the kept cases.
 
-use crate::questions::{judge, record_count};
+use crate::questions::{ends, judge, record_count};
 use crate::reference::Reference;
+use berylskip::Ends;
 
 /// The worked job's grammar: A→A 1 0, A→0, over three classes; A is secret.
 const WORKED: [u8; 15] = [3, 0, 0, 0, 1, 1, 2, 0, 3, 128, 1, 0, 0, 1, 0];
@@ -21,7 +22,20 @@ fn hold(what: &str, holds: bool) -> Result<(), String> {
 /// The examples that the program does not print.
 pub fn check() -> Result<(), String> {
     let worked = filled(&WORKED, &[2, 0, 1, 0, 1, 0])?;
-    hold("row 84", worked.ends(0, 1) == [2, 4, 6])?;
+    let row = Ends {
+        row: 84,
+        ends: 3,
+        smallest: 2,
+        largest: 6,
+    };
+    hold("row 84, 2 and 6", ends(&worked, 0, 1) == row)?;
+    let none = Ends {
+        row: 0,
+        ends: 0,
+        smallest: 255,
+        largest: 255,
+    };
+    hold("no end, 255 twice", ends(&worked, 0, 0) == none)?;
     hold("15 records", record_count(&worked) == 15)?;
     let circle = filled(&[1, 0, 1, 0, 2, 0, 1, 128, 0, 1, 0], &[0])?;
     hold("2 records", record_count(&circle) == 2)?;

@@ -81,7 +81,8 @@ pub fn ends(reference: &Reference, category: usize, start: usize) -> Ends {
     Ends {
         row: row(reference, category, start),
         ends: all.len() as u32,
-        smallest: all.first().map_or(64, |&end| end as u32),
+        smallest: all.first().map_or(255, |&end| end as u32),
+        largest: all.last().map_or(255, |&end| end as u32),
     }
 }
 

@@ -1,7 +1,7 @@
 //! How many calls ended in which way, by question, and how many cases there were of each kind.
 
-use crate::table::{Question, QUESTIONS};
-use berylskip::Refused;
+use crate::table::{Answer, Outcome, Question, QUESTIONS};
+use berylskip::Ends;
 use std::collections::BTreeMap;
 
 const LAST_NUMBER: usize = 14;
@@ -9,6 +9,15 @@ const LAST_NUMBER: usize = 14;
 const OF_THE_LIBRARY: [usize; 13] = [0, 1, 2, 3, 4, 5, 6, 7, 8, 9, 10, 11, 14];
 /// What the program can print: 0 is a job without a refusal.
 const OF_THE_PROGRAM: [usize; 14] = [0, 1, 2, 3, 4, 5, 6, 7, 8, 9, 10, 11, 13, 14];
+
+/// What a row of Ends can show, by its bits.
+const ROWS: [(&str, fn(u64) -> bool); 5] = [
+    ("no end", |row| row == 0),
+    ("one end", |row| row.is_power_of_two()),
+    ("more ends", |row| row.count_ones() > 1),
+    ("end 0", |row| row & 1 == 1),
+    ("end 63", |row| row >> 63 == 1),
+];
 
 /// How often each outcome was met: 0 is an answer, the others are refusals.
 type Endings = [usize; LAST_NUMBER + 1];
@@ -18,6 +27,7 @@ pub struct Tally {
     kinds: BTreeMap<&'static str, usize>,
     accepted: usize,
     endings: BTreeMap<&'static str, Endings>,
+    rows: [usize; ROWS.len()],
     printed: Endings,
 }
 
@@ -32,9 +42,14 @@ impl Tally {
     }
 
     /// One call of the library: answered, or refused by a number.
-    pub fn add_call(&mut self, question: &Question, refused: Option<Refused>) {
-        let row = self.endings.entry(question.name).or_default();
-        row[refused.map_or(0, |refused| refused.number as usize)] += 1;
+    pub fn add_call(&mut self, question: &Question, outcome: &Outcome) {
+        let number = (outcome.as_ref().err()).map_or(0, |refused| refused.number as usize);
+        self.endings.entry(question.name).or_default()[number] += 1;
+        if let Ok(Answer::Ends(Ends { row, .. })) = outcome {
+            for (count, (_, shows)) in self.rows.iter_mut().zip(ROWS) {
+                *count += usize::from(shows(*row));
+            }
+        }
     }
 
     /// One run of the program: the refusals that it is to print, or an answer where there is none.
@@ -61,7 +76,7 @@ impl Tally {
         self.endings.values().flatten().sum()
     }
 
-    /// The outcomes that no call met: an answer to each question, and each refusal of the library.
+    /// The outcomes that no call met: an answer to each question, each refusal of the library, and what a row of Ends can show.
     pub fn never_met(&self) -> Vec<String> {
         let answers = (QUESTIONS.iter())
             .filter(|question| self.row(question)[0] == 0)
@@ -69,7 +84,10 @@ impl Tally {
         let refusals = (OF_THE_LIBRARY[1..].iter())
             .filter(|&&number| QUESTIONS.iter().all(|one| self.row(one)[number] == 0))
             .map(|number| format!("refusal {number}"));
-        answers.chain(refusals).collect()
+        let rows = (ROWS.iter().zip(self.rows))
+            .filter(|(_, count)| *count == 0)
+            .map(|((shows, _), _)| format!("a row with {shows}"));
+        answers.chain(refusals).chain(rows).collect()
     }
 
     fn row(&self, question: &Question) -> Endings {
@@ -88,6 +106,11 @@ impl Tally {
             let row = self.row(question);
             print_row(question.name, &OF_THE_LIBRARY.map(|number| row[number]));
         }
+        let rows = ROWS.iter().zip(self.rows);
+        let rows: Vec<String> = rows
+            .map(|((shows, _), count)| format!("{shows} {count}"))
+            .collect();
+        println!("rows answered by ends: {}", rows.join(", "));
         if self.printed.iter().sum::<usize>() > 0 {
             self.print_runs();
         }
