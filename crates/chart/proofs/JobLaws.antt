@@ -1,5 +1,5 @@
 -- What Chart and Ends lead to on the document's job and on another line of its length, with work memory of any old contents.
-use Prim.Native.Nat.{ℕ, zero, suc, _+_, _*_, _<_}
+use Prim.Native.Nat.{ℕ, _+_, _*_}
 use mathlib.Core.Path.{_≡_, refl, _∙_}
 use mathlib.Core.Bool.{cond}
 use mathlib.Core.List.{List}
@@ -7,7 +7,7 @@ use native.Mathlib.Omega.{arith}
 use lib.ListN.{length, getD}
 use lib.Count.{trailingZeros, leadingZeros}
 use borrow.Author.Tests.{le-ltb}
-use Rattle.positions.specs.Member.{digit, Member}
+use Rattle.positions.specs.Member.{digit}
 use Rattle.positions.specs.Count.{countBelow}
 use Rattle.positions.specs.BothEnds.{BothEnds}
 use Rattle.positions.proofs.Extremes.{smallestOf, largestOf, both-computed}

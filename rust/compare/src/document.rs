@@ -22,20 +22,14 @@ fn hold(what: &str, holds: bool) -> Result<(), String> {
 /// The examples that the program does not print.
 pub fn check() -> Result<(), String> {
     let worked = filled(&WORKED, &[2, 0, 1, 0, 1, 0])?;
-    let row = Ends {
-        row: 84,
-        ends: 3,
-        smallest: 2,
-        largest: 6,
+    let row = |row, ends, smallest, largest| Ends {
+        row,
+        ends,
+        smallest,
+        largest,
     };
-    hold("row 84, 2 and 6", ends(&worked, 0, 1) == row)?;
-    let none = Ends {
-        row: 0,
-        ends: 0,
-        smallest: 255,
-        largest: 255,
-    };
-    hold("no end, 255 twice", ends(&worked, 0, 0) == none)?;
+    hold("row 84", ends(&worked, 0, 1) == row(84, 3, 2, 6))?;
+    hold("an empty row", ends(&worked, 0, 0) == row(0, 0, 255, 255))?;
     hold("15 records", record_count(&worked) == 15)?;
     let circle = filled(&[1, 0, 1, 0, 2, 0, 1, 128, 0, 1, 0], &[0])?;
     hold("2 records", record_count(&circle) == 2)?;
