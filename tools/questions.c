@@ -150,14 +150,14 @@ static void ask_with_less_work(const char *job, struct call c)
     }
 }
 
-/* The ends from a span's start. */
+/* The ends from a span's start, which may be out of range. */
 static void ask_ends(const char *job, struct call c)
 {
     size_t answer;
     int refused = ask(ENDS, &c, &answer);
 
     if (refused != BERYLSKIP_NUMBER_OUTSIDE)
-        expect(job, "ends", refused, 0);
+        expect(job, "ends of a span's start", refused, 0);
 }
 
 /* The tree of a span: with much room, then with its own, then with a byte less. */
@@ -190,7 +190,7 @@ static void ask_all(const char *job, struct call c, const uint8_t *spans, size_t
         return;
     }
     ask_with_less_work(job, c);
-    ask_ends(job, c);
+    expect(job, "ends", ask(ENDS, &c, &answer), 0);
     c.out = c.tokens;
     expect(job, "marks", ask(MARKS, &c, &answer), 0);
     if (c.out-- > 0)
