@@ -5,11 +5,12 @@ use mathlib.Core.Logic.{_↔_, ⊎-elim}
 use mathlib.Core.List.{List, [], _∷_, replicate}
 use native.Mathlib.Nat.{eq-or-lt-of-le, le-of-suc-le-suc, eq-zero-or-pos}
 use native.Mathlib.Numerals.{add-one}
-use native.Mathlib.Decide.{decLt}
+use native.Mathlib.Decide.{ℕ-discrete}
 use native.Mathlib.Omega.{arith}
 use lib.ListN.{length, getD, drop, set, length-set}
 use lib.Seq.{drop-cons, getD-set-same, getD-set-other}
 use Rattle.positions.specs.Member.{Member}
+use Rattle.positions.specs.BothEnds.{noEnd}
 use Rattle.derivation.specs.Grammar.{Rule, Grammar, Proper, ruleAt}
 use Rattle.derivation.specs.inner.Within.{ChildrenWithin}
 use Rattle.derivation.specs.computed.Table.{depthOf}
@@ -79,14 +80,14 @@ module _ (G : Grammar) (g starts line words depths : List ℕ) (s : Searchable G
             let least = rule-least G line (s .proper) (depth - 1) A i j p rule-inside (sym left-is ∙ l) (rw symbols-are at v) in
             record { rule = omega (arith, low, least); division = rw symbols-are at x }
 
--- of symbols, the ends of the first d are chosen, the last of them m; 64 where there is none
+-- of symbols, the ends of the first d are chosen, the last of them m; noEnd where there is none
 pub record SearchTurn (G : Grammar) (line : List ℕ) (h : ℕ) (symbols : List ℕ) (i j : ℕ) (ends : List ℕ) (m d : ℕ) : Type 0 where
   pub low : d ≤ length symbols
   pub after : i ≤ m
   pub long : length ends ≡ 9
   pub first : getD ends 0 0 ≡ i
   pub here : getD ends d 0 ≡ m
-  pub begun : 0 < d → m < 64 → ChildrenWithin G line h symbols i j
+  pub begun : 0 < d → (m ≡ noEnd → ⊥) → ChildrenWithin G line h symbols i j
   pub left : ChildrenWithin G line h symbols i j → ChildrenWithin G line h (drop d symbols) m j
   pub each :
       ChildrenWithin G line h symbols i j →
@@ -107,18 +108,18 @@ module _ (G : Grammar) (line : List ℕ) (proper : Proper G) (h : ℕ) (symbols 
 
   module _ (ends : List ℕ) (m d : ℕ) (turn : SearchTurn G line h symbols i j ends m d) where
     -- an end that was found is on the line
-    pub turn-inside : i ≤ length line → m < 64 → m ≤ length line
+    pub turn-inside : i ≤ length line → (m ≡ noEnd → ⊥) → m ≤ length line
     turn-inside a l = ⊎-elim
         (λ (q : d ≡ 0). omega (arith, turn .first, rw q at (turn .here)))
         (λ k. let r = children-inside (turn .left (turn .begun k l) .children) in omega (arith, r .rises))
         (eq-zero-or-pos d)
 
     -- where none was found, the rule does not serve
-    pub turn-fails : 64 ≤ m → ChildrenWithin G line h symbols i j → ⊥
+    pub turn-fails : m ≡ noEnd → ChildrenWithin G line h symbols i j → ⊥
     turn-fails l v = omega (arith, children-inside (turn .left v .children) .rises)
 
     -- where all were found, it does, with these ends
-    pub turn-whole : d ≡ length symbols → m < 64 → (length symbols ≡ 0 → i ≡ j) → ChildrenWithin G line h symbols i j × Division G line h symbols i j ends
+    pub turn-whole : d ≡ length symbols → (m ≡ noEnd → ⊥) → (length symbols ≡ 0 → i ≡ j) → ChildrenWithin G line h symbols i j × Division G line h symbols i j ends
     turn-whole q l empty =
         let v : ChildrenWithin G line h symbols i j = ⊎-elim (λ (z : length symbols ≡ 0). nothing symbols z (empty z)) (λ k. turn .begun (rw q k) l) (eq-zero-or-pos (length symbols)) in
         (v, record { first = turn .first; each = λ x k. turn .each v x (rw q k) })
@@ -127,10 +128,10 @@ module _ (G : Grammar) (line : List ℕ) (proper : Proper G) (h : ℕ) (symbols 
         nothing [] z e = rw e (empty-within b)
         nothing (c ∷ t) z e = absurd (omega arith)
 
-    module _ (set-after e : ℕ) (l : d < length symbols) (small : m < 64) (f : FirstThat (Leads G line h (getD symbols d 0) set-after m) e)
+    module _ (set-after e : ℕ) (l : d < length symbols) (found : m ≡ noEnd → ⊥) (f : FirstThat (Leads G line h (getD symbols d 0) set-after m) e)
         (exact : (x : ℕ) → Member set-after x ↔ ((i ≤ x) × ChildrenWithin G line h (drop (suc d) symbols) x j)) where
       -- the first end in the set is the chosen one
-      end-chosen : ChildrenWithin G line h (drop d symbols) m j → (e ≡ chosenEnd G line (depthOf G line) h (getD symbols d 0) (drop (suc d) symbols) m j) × (e < 64)
+      end-chosen : ChildrenWithin G line h (drop d symbols) m j → (e ≡ chosenEnd G line (depthOf G line) h (getD symbols d 0) (drop (suc d) symbols) m j) × (e ≡ noEnd → ⊥)
       end-chosen v =
           let c = getD symbols d 0 in
           let t = drop (suc d) symbols in
@@ -139,24 +140,24 @@ module _ (G : Grammar) (line : List ℕ) (proper : Proper G) (h : ℕ) (symbols 
           let tells = end-tells G line proper h c t m j x (first .passes) in
           let r = child-inside (tells .0 .child) in
           let not-before : x < e → ⊥ = λ k. f .none x k (exact x .1 (omega (arith, turn .after, r .rises), tells .1), tells .0) in
-          let few : e < 64 = omega (arith, r .ends) in
-          let found = f .found few in
-          let least : x ≤ e = first .least e zero-le (end-passes G line proper h c t m j e (found .1) (exact e .0 (found .0) .1)) in
-          (omega arith, few)
+          let some : e ≡ noEnd → ⊥ = λ q. omega (arith, r .ends) in
+          let leads = f .found some in
+          let least : x ≤ e = first .least e zero-le (end-passes G line proper h c t m j e (leads .1) (exact e .0 (leads .0) .1)) in
+          (omega arith, some)
 
-      pub turn-next : d < 8 → SearchTurn G line h symbols i j (set ends (d + 1) e) e (d + 1)
-      turn-next k = rw add-one (record {
+      pub turn-next : d < 8 → i ≤ length line → SearchTurn G line h symbols i j (set ends (d + 1) e) e (d + 1)
+      turn-next k a = rw add-one (record {
         low = l;
-        after = after (decLt e 64);
+        after = after (ℕ-discrete e noEnd);
         long = length-set ends (suc d) e ∙ turn .long;
         first = other 0 (λ q. omega arith) ∙ turn .first;
         here = last;
-        begun = λ pos few. ⊎-elim
+        begun = λ pos some. ⊎-elim
             (λ (q : d ≡ 0).
             let same : m ≡ i = sym (rw q at (turn .here)) ∙ turn .first in
-            let v : ChildrenWithin G line h (drop d symbols) m j = rw (drop-cons symbols d 0 l) (then-within (f .found few .1) (exact e .0 (f .found few .0) .1)) in
+            let v : ChildrenWithin G line h (drop d symbols) m j = rw (drop-cons symbols d 0 l) (then-within (f .found some .1) (exact e .0 (f .found some .0) .1)) in
             rw (q, same) at v)
-            (λ pos. turn .begun pos small)
+            (λ pos. turn .begun pos found)
             (eq-zero-or-pos d);
         left = λ v. exact e .0 (f .found (end-chosen (turn .left v) .1) .0) .1;
         each = λ v x y. ⊎-elim
@@ -171,6 +172,6 @@ module _ (G : Grammar) (line : List ℕ) (proper : Proper G) (h : ℕ) (symbols 
           other : (x : ℕ) → (x ≡ suc d → ⊥) → getD (set ends (suc d) e) x 0 ≡ getD ends x 0
           other x n = getD-set-other ends (suc d) x e 0 n
 
-          after : Dec (e < 64) → i ≤ e
-          after (yes y) = exact e .0 (f .found y .0) .0
-          after (no y) = omega (arith, turn .after)
+          after : Dec (e ≡ noEnd) → i ≤ e
+          after (yes y) = omega arith
+          after (no y) = exact e .0 (f .found y .0) .0

@@ -1,6 +1,6 @@
 -- The first end of a symbol in a set, the starts before a set, and the sets of a rule's symbols, made from the right.
 use Prim.Native.Nat.{ℕ, zero, suc, _+_, _-_, _≤_, _<_}
-use mathlib.Core.Path.{_≡_, _∙_}
+use mathlib.Core.Path.{_≡_, refl, _∙_}
 use mathlib.Core.Logic.{_↔_, _⊎_, inl, inr, ⊎-elim}
 use mathlib.Core.List.{List}
 use native.Mathlib.Nat.{eq-or-lt-of-le, le-of-suc-le-suc}
@@ -11,6 +11,7 @@ use lib.Bits.{bitAnd}
 use lib.ListN.{length, getD, drop, set}
 use lib.Seq.{drop-cons, drop-length, getD-set-same, getD-set-other}
 use Rattle.positions.specs.Member.{Member}
+use Rattle.positions.specs.BothEnds.{noEnd}
 use Rattle.positions.specs.With.{With}
 use Rattle.positions.proofs.Members.{none-member, and-member}
 use Rattle.derivation.specs.Grammar.{Grammar}
@@ -49,15 +50,15 @@ module _ (line words depths : List ℕ) (h c set m : ℕ) where
 
   -- a class: only the next position, after its token
   module _ (k : c < 128) where
-    pub end-past : length line ≤ m → FirstEnd line words depths h c set m 64
-    end-past a G work known = record { none = λ e l p. omega (arith, within-token k (p .1) .0); found = λ l. absurd (omega arith) }
+    pub end-past : length line ≤ m → FirstEnd line words depths h c set m noEnd
+    end-past a G work known = record { none = λ e l p. omega (arith, within-token k (p .1) .0); found = λ n. absurd (n refl) }
 
-    pub end-other : (getD line m 0 ≡ c → ⊥) → FirstEnd line words depths h c set m 64
-    end-other n G work known = record { none = λ e l p. n (within-token k (p .1) .1); found = λ l. absurd (omega arith) }
+    pub end-other : (getD line m 0 ≡ c → ⊥) → FirstEnd line words depths h c set m noEnd
+    end-other n G work known = record { none = λ e l p. n (within-token k (p .1) .1); found = λ n. absurd (n refl) }
 
-    pub end-out : (Member set (m + 1) → ⊥) → FirstEnd line words depths h c set m 64
+    pub end-out : (Member set (m + 1) → ⊥) → FirstEnd line words depths h c set m noEnd
     end-out n G work known =
-        record { none = λ e l p. n (rw (add-one, ← within-token k (p .1) .2) (p .0)); found = λ l. absurd (omega arith) }
+        record { none = λ e l p. n (rw (add-one, ← within-token k (p .1) .2) (p .0)); found = λ n. absurd (n refl) }
 
     pub end-next : m < length line → getD line m 0 ≡ c → Member set (m + 1) → FirstEnd line words depths h c set m (m + 1)
     end-next a q s G work known =
@@ -89,7 +90,7 @@ module _ (line words depths : List ℕ) (h c set start end : ℕ) where
   }
 
   module _ (m r e : ℕ) (l : m ≤ end) (f : FirstEnd line words depths h c set m e) (b : BeforeBelow line words depths h c set start end m r) where
-    pub before-more : (r′ : ℕ) → e < 64 → With r m r′ → BeforeBelow line words depths h c set start end (m + 1) r′
+    pub before-more : (r′ : ℕ) → (e ≡ noEnd → ⊥) → With r m r′ → BeforeBelow line words depths h c set start end (m + 1) r′
     before-more r′ k w = record {
       after = omega (arith, b .after);
       inside = λ x y. ⊎-elim (b .inside x) (λ (q : x ≡ m). omega arith) (w x .0 y);
@@ -99,7 +100,7 @@ module _ (line words depths : List ℕ) (h c set start end : ℕ) where
       );
     }
 
-    pub before-skip : 64 ≤ e → ((x : ℕ) → Member set x → x ≤ end) → end ≤ 63 → BeforeBelow line words depths h c set start end (m + 1) r
+    pub before-skip : e ≡ noEnd → ((x : ℕ) → Member set x → x ≤ end) → end ≤ 63 → BeforeBelow line words depths h c set start end (m + 1) r
     before-skip k low few = record {
       after = omega (arith, b .after);
       inside = b .inside;

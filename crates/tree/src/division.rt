@@ -10,6 +10,9 @@ ghost use Rattle.tree.specs.inner.Sets.{FirstThat, FirstEnd, ClassBefore
 use grammar::rules::rule_left;
 use grammar::rules::rule_symbols;
 
+// What stands for an end where there is none.
+pub const NO_END: usize = positions::NO_END as usize;
+
 // The depth kept for (A, i, j) on a line of n tokens.
 pub fn depth_at(depths: &[u16], n: usize, category: usize, start: usize, end: usize) -> u16
     requires { ⌜ (n ≤ 63) × (start ≤ n) × (end ≤ n) × (depthsSize (suc category) n ≤ length (now depths)) ⌝ }
@@ -19,7 +22,7 @@ pub fn depth_at(depths: &[u16], n: usize, category: usize, start: usize, end: us
     depths[(category * width + start) * width + end]
 }
 
-// The first of some ends whose depth, kept from a base on, is at most h, and 64 for none.
+// The first of some ends whose depth, kept from a base on, is at most h, and NO_END for none.
 fn shallow_end(depths: &[u16], base: usize, ends: u64, h: u16) -> usize
     requires { ⌜ ((e : ℕ) → Member ends e → base + e < length (now depths)) ⌝ }
     ensures { λ r. ⌜ FirstThat (λ e. Member ends e × (getD (now (depths .entry)) (base + e) 0 ≤ h)) r ⌝ }
@@ -32,10 +35,10 @@ fn shallow_end(depths: &[u16], base: usize, ends: u64, h: u16) -> usize
         }
         left = left & (left - 1);
     }
-    64
+    NO_END
 }
 
-// The first end of a symbol from a start that is in the set, and 64 for none; a class ends after its token.
+// The first end of a symbol from a start that is in the set, and NO_END for none; a class ends after its token.
 pub fn first_end(
     symbol: usize,
     line: &[u8],
@@ -59,15 +62,15 @@ pub fn first_end(
         return shallow_end(depths, row * width, words[row] & set, h);
     }
     if line.len() <= start {
-        return 64;
+        return NO_END;
     }
     if line[start] as usize != symbol {
-        return 64;
+        return NO_END;
     }
     if positions::member(set, start + 1) {
         return start + 1;
     }
-    64
+    NO_END
 }
 
 // The positions from a start on at which the line has a class, and after which the next is in the set.
@@ -114,7 +117,7 @@ fn starts_before(
     let mut starts = 0u64;
     let mut m = start;
     while m <= end {
-        if first_end(symbol, line, words, depths, h, set, m) < 64 {
+        if first_end(symbol, line, words, depths, h, set, m) != NO_END {
             starts = positions::insert(starts, m);
         }
         m += 1;

@@ -2,6 +2,7 @@
 ghost use Rattle.grammar.specs.Given.{grammarGiven};
 ghost use Rattle.tree.specs.inner.Searchable.{Searchable, NodeAt};
 ghost use Rattle.tree.specs.inner.Searched.{Searched};
+use super::division::NO_END;
 use super::division::first_end;
 use super::division::may_serve;
 use super::division::sets_before;
@@ -44,7 +45,7 @@ pub fn search(
         let mut ends = [start; 9];
         let mut m = start;
         let mut d = 0;
-        while m < 64 {
+        while m != NO_END {
             if d == symbols.len() {
                 break 'search Found { rule: p, ends };
             }

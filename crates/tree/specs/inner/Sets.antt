@@ -6,6 +6,7 @@ use mathlib.Core.Bool.{Bool, true, false}
 use mathlib.Core.List.{List}
 use lib.ListN.{length, getD, drop}
 use Rattle.positions.specs.Member.{Member}
+use Rattle.positions.specs.BothEnds.{noEnd}
 use Rattle.derivation.specs.Grammar.{Grammar, Rule}
 use Rattle.derivation.specs.inner.Within.{ChildWithin, ChildrenWithin}
 use Rattle.tree.specs.inner.Kept.{DepthsKept, RowsKept}
@@ -19,10 +20,10 @@ pub record WorkKept (G : Grammar) (line words depths : List ℕ) : Type 0 where
   pub kept : DepthsKept G line depths
   pub rows : RowsKept G line words
 
--- r is the first of 64 numbers of which P holds, and not below 64 where it holds of none
+-- r is the first position of which P holds, and noEnd where it holds of none
 pub record FirstThat (P : ℕ → Type 0) (r : ℕ) : Type 0 where
   pub none : (e : ℕ) → e < r → P e → ⊥
-  pub found : r < 64 → P r
+  pub found : (r ≡ noEnd → ⊥) → P r
 
 -- from m the symbol ends at e, a category with a depth of at most h, and e is in the set
 abbrev pub Leads : Grammar → List ℕ → ℕ → ℕ → ℕ → ℕ → ℕ → Type 0

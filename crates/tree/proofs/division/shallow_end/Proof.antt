@@ -1,6 +1,6 @@
 -- `tree::division::shallow_end` meets its contract. The loop's invariant: of the ends, none that has left passes.
 use Prim.Native.Nat.{ℕ, _+_, _≤_, _<_}
-use mathlib.Core.Path.{_≡_}
+use mathlib.Core.Path.{_≡_, refl}
 use mathlib.Core.Logic.{⊎-elim}
 use native.Mathlib.Nat.{lt-irrefl, lt-of-le-of-lt}
 use native.Mathlib.Omega.{arith}
@@ -60,7 +60,7 @@ loop-again c =
 returns-2 : tie.Need-returns-2 Inv-loop μ-loop
 returns-2 c =
     let l = c .before .loop in
-    record { none = λ e k p. l .inv .2 e (p .0) (λ m. none-member e (rw (c .loop-test .left) at m)) (p .1); found = λ k. absurd (omega arith) }
+    record { none = λ e k p. l .inv .2 e (p .0) (λ m. none-member e (rw (c .loop-test .left) at m)) (p .1); found = λ n. absurd (n refl) }
 
 pub shallow-end-spec : {M : Type 1} → statement M
 shallow-end-spec =

@@ -95,7 +95,7 @@ loop-again c =
     let k = fewer o in
     let known = rw (← e) at (symbols-known _ _ _ _ _ _ (s .pre .0) _ (inside (here l))) in
     turn-next _ _ (s .pre .0 .proper) _ _ _ _ (s .pre .0 .short) (s .pre .1 .end) _ _ _ (l .loop .inv) _ _ (k .0) (o .before .loop-test .taken)
-    (c .first-end .ensures _ (s .pre .0 .work) (known _ (k .0))) (rw add-one (l .before .sets-before .ensures .exact _ (s .pre .0 .work) known _ (omega arith) (k .0))) (k .1)
+    (c .first-end .ensures _ (s .pre .0 .work) (known _ (k .0))) (rw add-one (l .before .sets-before .ensures .exact _ (s .pre .0 .work) known _ (omega arith) (k .0))) (k .1) (s .pre .1 .start)
 
 search-again-2 : tie.Need-search-again-2 Inv-loop μ-loop Inv-search μ-search
 search-again-2 c =
