@@ -15,7 +15,7 @@ pub enum ChartAnswer {
     Refused(Refusal),
 }
 
-// What the question of the ends of (A, i) answers: the row, how many ends it shows, the smallest and the largest, NO_END for both where there is none.
+// What the question of the ends of (A, i) answers: the row, how many ends it shows, the smallest and the largest, positions::NO_END for both where there is none.
 pub enum EndsAnswer {
     Row {
         row: u64,
