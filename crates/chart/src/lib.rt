@@ -1,4 +1,5 @@
 // The questions Chart and Ends.
+#![tactic(auto)]
 ghost use Rattle.chart.specs.ChartOutcome.{ChartOutcome};
 ghost use Rattle.chart.specs.EndsOutcome.{EndsOutcome};
 

@@ -33,6 +33,7 @@ module _ {X : Type 0} {numbers : X → List ℕ} where
   before_all : {a b : X} {l : List X} → Ascending numbers (a ∷ l) → Memᴰ b l → Before numbers a b
   before_all {a} (IsChain.cons-cons r c) (Memᴰ.head e) = subst (Before numbers a) (sym e) r
   before_all (IsChain.cons-cons r c) (Memᴰ.tail m) = lex_trans r (before_all c m)
+  before_all {b = b} (IsChain.singleton a) m = elim m [ ]
 
   module _ {x y : X} {l l' : List X} where
     -- equal first members may be left out

@@ -107,6 +107,7 @@ module _ (g : Grammar) (w : List ℕ) (h : ℕ) where
   next_first :
       {c i j m : ℕ} {s ends : List ℕ} → First (end_test c s i j) 0 m →
       ((others : List ℕ) → Serves g w (suc h) s m others j → NotAfter ends others) → (others : List ℕ) → Serves g w (suc h) (c ∷ s) i others j → NotAfter (m ∷ ends) others
+  next_first {c = c} {i = i} {j = j} {m = m} {s = s} {ends = ends} f rest [] v = elim v [ ]
   next_first {m = m} {ends = ends} f rest (n ∷ others) (next_serves b v) = go (eq-or-lt_of_le (f.least n zero-le (end_passes b v)))
     where
       go : (m ≡ n) ⊎ (m < n) → NotAfter (m ∷ ends) (n ∷ others)
@@ -151,6 +152,7 @@ module _ (g : Grammar) (w : List ℕ) (proper : Proper g) where
       where
         none_first : {i j : ℕ} (others : List ℕ) → Serves g w (suc h) [] i others j → NotAfter [] others
         none_first [] (none_serves l) = ended
+        none_first (_ ∷ _) v = elim v [ ]
     show_row (c ∷ s) i j e =
         let m = chosen_end g w (depth_of g w) h c s i j in
         let f = end_first h c s i j e in

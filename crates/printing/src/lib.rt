@@ -1,4 +1,5 @@
 // Prints what a job leads to.
+#![tactic(auto)]
 ghost use Rattle.std.specs.Prelude.{◌≡◌, true, [], ◌+◌, ◌≤◌, ◌<◌, length, get_or, ltb};
 ghost use Rattle.tree.specs.Bytes.{wrote};
 ghost use Rattle.report.specs.Printed.{pieces};

@@ -7,14 +7,14 @@ use Rattle.checks.proofs.Laws.{chart_small, too_small, large_enough}
 use Rattle.checks.proofs.check_chart.Statement.{statement}
 use Rattle.checks.proofs.check_chart.Tie as tie
 
-returns : tie.Need-returns
-returns c = let a = c.before.args in sym (too_small (chart_size a.categories a.n) _ _ c.if1.true)
+returns : tie.Need-returns-then-words-categories
+returns c = let a = c.args in sym (too_small (chart_size a.categories a.n) _ _ c.if-words-categories.true)
 
-returns-2 : tie.Need-returns-2
-returns-2 c = let a = c.before.args in sym (large_enough (chart_size a.categories a.n) _ _ c.if1.false)
+returns-2 : tie.Need-returns
+returns-2 c = let a = c.args in sym (large_enough (chart_size a.categories a.n) _ _ c.if-words-categories.false)
 
-pub check-chart-spec : {M : Type 1} → statement M
-check-chart-spec =
+pub check_chart_spec : {M : Type 1} → statement M
+check_chart_spec =
     tie.close
     (tie.spec
     (λ c. search rules)

@@ -7,14 +7,14 @@ use Rattle.checks.proofs.Laws.{chart_small, depths_small, too_small, large_enoug
 use Rattle.checks.proofs.check_depths.Statement.{statement}
 use Rattle.checks.proofs.check_depths.Tie as tie
 
-returns : tie.Need-returns
-returns c = let a = c.before.args in sym (too_small (depths_size a.categories a.n) _ _ c.if1.true)
+returns : tie.Need-returns-then-numbers-categories
+returns c = let a = c.args in sym (too_small (depths_size a.categories a.n) _ _ c.if-numbers-categories.true)
 
-returns-2 : tie.Need-returns-2
-returns-2 c = let a = c.before.args in sym (large_enough (depths_size a.categories a.n) _ _ c.if1.false)
+returns-2 : tie.Need-returns
+returns-2 c = let a = c.args in sym (large_enough (depths_size a.categories a.n) _ _ c.if-numbers-categories.false)
 
-pub check-depths-spec : {M : Type 1} → statement M
-check-depths-spec =
+pub check_depths_spec : {M : Type 1} → statement M
+check_depths_spec =
     tie.close
     (tie.spec
     (λ c. search rules)

@@ -9,41 +9,41 @@ use Rattle.checks.proofs.Laws.{tokens_none, tokens_bad, tokens_more, line_long, 
 use Rattle.checks.proofs.check_line.Statement.{statement}
 use Rattle.checks.proofs.check_line.Tie as tie
 
-abbrev invariant-loop : tie.invariant-loop
-invariant-loop classes line token₀ token = (token ≤ length line) × (tokens_from classes line (length line - token) token ≡ line_check classes line)
+abbrev invariant-loop-token : tie.invariant-loop-token
+invariant-loop-token classes line token₀ token = (token ≤ length line) × (tokens_from classes line (length line - token) token ≡ line_check classes line)
 
-abbrev decreases-loop : tie.decreases-loop
-decreases-loop classes line token₀ token = length line - token
+abbrev decreases-loop-token : tie.decreases-loop-token
+decreases-loop-token classes line token₀ token = length line - token
 
-returns : tie.Need-returns invariant-loop decreases-loop
-returns c = sym (line_long _ _ c.if1.true)
+returns : tie.Need-returns-then-line-gt63 invariant-loop-token decreases-loop-token
+returns c = sym (line_long _ _ c.if-line-gt63.true)
 
-loop-holds : tie.Need-loop-init invariant-loop decreases-loop
-loop-holds c = (omega arith, sym (line_short _ _ c.if1.false))
+loop-holds : tie.Need-loop-token-init invariant-loop-token decreases-loop-token
+loop-holds c = (omega arith, sym (line_short _ _ c.if-line-gt63.false))
 
-returns-2 : tie.Need-returns-2 invariant-loop decreases-loop
+returns-2 : tie.Need-returns-then-classes-line invariant-loop-token decreases-loop-token
 returns-2 c =
-    let l = c.before.before.before.loop in
-    sym (tokens_bad _ _ l.token c.before.before.loop-test.true c.if2.true) ∙ l.invariant.1
+    let l = c.loop-token in
+    sym (tokens_bad _ _ l.token c.loop-token-test.true c.if-classes-line.true) ∙ l.invariant.1
 
-loop-again : tie.Need-loop-preserved invariant-loop decreases-loop
+loop-again : tie.Need-loop-token-preserved invariant-loop-token decreases-loop-token
 loop-again c =
-    let l = c.before.before.before.loop in
-    (omega arith, sym (tokens_more _ _ l.token c.before.before.loop-test.true c.if2.false) ∙ l.invariant.1)
+    let l = c.loop-token in
+    (omega arith, sym (tokens_more _ _ l.token c.loop-token-test.true c.if-classes-line.false) ∙ l.invariant.1)
 
-returns-3 : tie.Need-returns-3 invariant-loop decreases-loop
-returns-3 c = sym (tokens_none _ _ _ c.loop-test.false) ∙ c.before.loop.invariant.1
+returns-3 : tie.Need-returns invariant-loop-token decreases-loop-token
+returns-3 c = sym (tokens_none _ _ _ c.loop-token-test.false) ∙ c.loop-token.invariant.1
 
-pub check-line-spec : {M : Type 1} → statement M
-check-line-spec =
+pub check_line_spec : {M : Type 1} → statement M
+check_line_spec =
     tie.close
     (tie.spec
-    invariant-loop
-    decreases-loop
+    invariant-loop-token
+    decreases-loop-token
     returns
     loop-holds
     (λ c. search rules)
-    (λ c. omega (arith, c.shared-slice-known.given c.before.before.loop.token))
+    (λ c. omega (arith, c.shared_slice_known-1.given c.loop-token.token))
     returns-2
     (λ c. search rules) (λ c. search rules)
     loop-again

@@ -5,28 +5,23 @@ use Rattle.checks.proofs.Laws.{line_passed}
 use Rattle.checks.proofs.check_rest.Statement.{statement}
 use Rattle.checks.proofs.check_rest.Tie as tie
 
-returns : tie.Need-returns
-returns c = simp (sym c.before.before.before.check-line.ensures ∙ c.before.refusal.given.1)
+returns : tie.Need-returns-in-Refused
+returns c = simp (sym c.check_line.ensures ∙ c.in-Refused.is)
 
-check-work-requires : tie.Need-check-work-requires
+check-work-requires : tie.Need-check_work-requires
 check-work-requires c κs =
-    let passed = c.before.before.before in
-    (search rules, ((line_passed _ _).0 (sym passed.before.before.check-line.ensures ∙ passed.enum_told.given.1)).short)
+    (search rules, ((line_passed _ _).0 (sym c.check_line.ensures ∙ c.in-Passed.is)).short)
 
-returns-2 : tie.Need-returns-2
+returns-2 : tie.Need-returns-in-Refused-check_asked
 returns-2 c =
-    let asked = c.before.before.before in
-    let passed = asked.before in
-    simp (sym passed.before.before.check-line.ensures ∙ passed.enum_told.given.1, sym asked.check-asked.ensures ∙ c.before.refusal2.given.1)
+    simp (sym c.check_line.ensures ∙ c.in-Passed.is, sym c.check_asked.ensures ∙ c.in-Refused-check_asked.is)
 
-returns-3 : tie.Need-returns-3
+returns-3 : tie.Need-returns-in-Passed-check_asked
 returns-3 c =
-    let asked = c.before.before.before in
-    let passed = asked.before in
-    c.check-work.ensures ∙ simp (sym passed.before.before.check-line.ensures ∙ passed.enum_told.given.1, sym asked.check-asked.ensures ∙ c.before.enum-told2.given.1)
+    c.check_work.ensures ∙ simp (sym c.check_line.ensures ∙ c.in-Passed.is, sym c.check_asked.ensures ∙ c.in-Passed-check_asked.is)
 
-pub check-rest-spec : {M : Type 1} → statement M
-check-rest-spec =
+pub check_rest_spec : {M : Type 1} → statement M
+check_rest_spec =
     tie.close
     (tie.spec
     (λ c κs. search rules) (λ c. search rules)

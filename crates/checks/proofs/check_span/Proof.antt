@@ -6,28 +6,26 @@ use Rattle.checks.specs.Question.{span_check}
 use Rattle.checks.proofs.check_span.Statement.{statement}
 use Rattle.checks.proofs.check_span.Tie as tie
 
-returns : tie.Need-returns
+returns : tie.Need-returns-in-Refused
 unfolding span_check
-returns c = simp (sym c.before.before.before.check-start.ensures ∙ c.before.refusal.given.1)
+returns c = simp (sym c.check_start.ensures ∙ c.in-Refused.is)
 
-returns-2 : tie.Need-returns-2
+returns-2 : tie.Need-returns-then-n-end
 unfolding span_check
-returns-2 c = simp (sym c.before.before.before.check-start.ensures ∙ c.before.enum_told.given.1, lt-ltb _ _ c.if1.true)
+returns-2 c = simp (sym c.check_start.ensures ∙ c.in-Passed.is, lt-ltb _ _ c.if-n-end.true)
 
-returns-3 : tie.Need-returns-3
+returns-3 : tie.Need-returns-then-end-start
 unfolding span_check
 returns-3 c =
-    let s = c.before.before in
-    simp (sym s.before.before.check-start.ensures ∙ s.enum_told.given.1, le-ltb _ _ c.before.if1.false, lt-ltb _ _ c.if2.true)
+    simp (sym c.check_start.ensures ∙ c.in-Passed.is, le-ltb _ _ c.if-n-end.false, lt-ltb _ _ c.if-end-start.true)
 
-returns-4 : tie.Need-returns-4
+returns-4 : tie.Need-returns
 unfolding span_check
 returns-4 c =
-    let s = c.before.before in
-    simp (sym s.before.before.check-start.ensures ∙ s.enum_told.given.1, le-ltb _ _ c.before.if1.false, le-ltb _ _ c.if2.false)
+    simp (sym c.check_start.ensures ∙ c.in-Passed.is, le-ltb _ _ c.if-n-end.false, le-ltb _ _ c.if-end-start.false)
 
-pub check-span-spec : {M : Type 1} → statement M
-check-span-spec =
+pub check_span_spec : {M : Type 1} → statement M
+check_span_spec =
     tie.close
     (tie.spec
     (λ c κs. search rules) (λ c. search rules)

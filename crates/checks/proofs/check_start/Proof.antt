@@ -4,17 +4,17 @@ use Rattle.checks.specs.Question.{start_check}
 use Rattle.checks.proofs.check_start.Statement.{statement}
 use Rattle.checks.proofs.check_start.Tie as tie
 
-returns : tie.Need-returns
+returns : tie.Need-returns-then-categories-category
 unfolding start_check
-returns c = simp (le-leb _ _ c.if1.true)
+returns c = simp (le-leb _ _ c.if-categories-category.true)
 
-returns-2 : tie.Need-returns-2
+returns-2 : tie.Need-returns-then-n-start
 unfolding start_check
-returns-2 c = simp (lt-leb _ _ c.before.if1.false, lt-ltb _ _ c.if2.true)
+returns-2 c = simp (lt-leb _ _ c.if-categories-category.false, lt-ltb _ _ c.if-n-start.true)
 
-returns-3 : tie.Need-returns-3
+returns-3 : tie.Need-returns
 unfolding start_check
-returns-3 c = simp (lt-leb _ _ c.before.if1.false, le-ltb _ _ c.if2.false)
+returns-3 c = simp (lt-leb _ _ c.if-categories-category.false, le-ltb _ _ c.if-n-start.false)
 
-pub check-start-spec : {M : Type 1} → statement M
-check-start-spec = tie.close (tie.spec returns returns-2 returns-3)
+pub check_start_spec : {M : Type 1} → statement M
+check_start_spec = tie.close (tie.spec returns returns-2 returns-3)

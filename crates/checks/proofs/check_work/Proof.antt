@@ -4,14 +4,14 @@ use mathlib.Core.Path.{sym, ◌∙◌}
 use Rattle.checks.proofs.check_work.Statement.{statement}
 use Rattle.checks.proofs.check_work.Tie as tie
 
-returns : tie.Need-returns
-returns c = simp (sym c.before.before.before.check-chart.ensures ∙ c.before.refusal.given.1)
+returns : tie.Need-returns-in-Refused
+returns c = simp (sym c.check_chart.ensures ∙ c.in-Refused.is)
 
-returns-2 : tie.Need-returns-2
-returns-2 c = simp (sym c.before.before.before.check-chart.ensures ∙ c.before.enum_told.given.1) c.check-depths.ensures
+returns-2 : tie.Need-returns-in-Passed
+returns-2 c = simp (sym c.check_chart.ensures ∙ c.in-Passed.is) c.check_depths.ensures
 
-pub check-work-spec : {M : Type 1} → statement M
-check-work-spec =
+pub check_work_spec : {M : Type 1} → statement M
+check_work_spec =
     tie.close
     (tie.spec
     (λ c κs. search rules) (λ c. search rules) (λ c. search rules) (λ c κs. search rules)

@@ -6,5 +6,5 @@ use Rattle.positions.proofs.after_class.Tie as tie
 returns : tie.Need-returns
 returns c = after_shift c.args.set c.args.places c.requires
 
-pub after-class-spec : {M : Type 1} → statement M
-after-class-spec = tie.close (tie.spec returns)
+pub after_class_spec : {M : Type 1} → statement M
+after_class_spec = tie.close (tie.spec returns)

@@ -7,5 +7,5 @@ use Rattle.positions.proofs.insert.Tie as tie
 returns : tie.Need-returns
 returns c = with_shift c.args.set c.args.at c.requires
 
-pub insert-spec : {M : Type 1} → statement M
-insert-spec = tie.close (tie.spec (λ c. search rules) returns)
+pub insert_spec : {M : Type 1} → statement M
+insert_spec = tie.close (tie.spec (λ c. search rules) returns)

@@ -8,5 +8,5 @@ use Rattle.positions.proofs.last.Tie as tie
 returns : tie.Need-returns
 returns c = last_leading c.args.set c.requires c.ranges.set.fits
 
-pub last-spec : {M : Type 1} → statement M
-last-spec = tie.close (tie.spec (λ c. omega (arith, (leading_top 64 c.args.set c.requires c.ranges.set.fits).1)) returns)
+pub last_spec : {M : Type 1} → statement M
+last_spec = tie.close (tie.spec (λ c. omega (arith, (leading_top 64 c.args.set c.requires c.ranges.set.fits).1)) returns)

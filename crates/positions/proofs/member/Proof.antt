@@ -12,5 +12,5 @@ returns : tie.Need-returns
 unfolding digit
 returns c = ap (λ (y : ℕ). eqb y 1) (and_mask (c.args.set / 2 ^ c.args.at) 1)
 
-pub member-spec : {M : Type 1} → statement M
-member-spec = tie.close (tie.spec (λ c. search rules) returns)
+pub member_spec : {M : Type 1} → statement M
+member_spec = tie.close (tie.spec (λ c. search rules) returns)

@@ -14,76 +14,76 @@ use Rattle.positions.proofs.Unions.{Gathered, RowLeads, After, gathered_none, ga
 use Rattle.positions.proofs.union.Statement.{statement}
 use Rattle.positions.proofs.union.Tie as tie
 
-abbrev invariant-loop2 : tie.invariant-loop2
-invariant-loop2 set rows base from width all₀ left pairs fours runs m₀ last all m = (m₀ ≤ m) × (m ≤ last) × Gathered (RowLeads rows base from width) (Member set) (After left m) all
+abbrev invariant-loop-m : tie.invariant-loop-m
+invariant-loop-m set rows base from width all₀ left pairs fours runs m₀ last all m = (m₀ ≤ m) × (m ≤ last) × Gathered (RowLeads rows base from width) (Member set) (After left m) all
 
-abbrev decreases-loop2 : tie.decreases-loop2
-decreases-loop2 set rows base from width all₀ left pairs fours runs m₀ last all m = last - m
+abbrev decreases-loop-m : tie.decreases-loop-m
+decreases-loop-m set rows base from width all₀ left pairs fours runs m₀ last all m = last - m
 
-abbrev invariant-loop : tie.invariant-loop
-invariant-loop set rows base from width all₀ left₀ pairs fours runs all left =
+abbrev invariant-loop-left : tie.invariant-loop-left
+invariant-loop-left set rows base from width all₀ left₀ pairs fours runs all left =
     (left < 2 ^ 64) × Gathered (RowLeads rows base from width) (Member set) (Member left) all × ((m : ℕ) → Member left m → (from ≤ m) × (m < width))
 
-abbrev decreases-loop : tie.decreases-loop
-decreases-loop set rows base from width all₀ left₀ pairs fours runs all left = left
+abbrev decreases-loop-left : tie.decreases-loop-left
+decreases-loop-left set rows base from width all₀ left₀ pairs fours runs all left = left
 
 -- the member that a turn takes: it is in bounds, and so is its row
-module _ (c : tie.After-first invariant-loop2 decreases-loop2 invariant-loop decreases-loop) where
-  abbrev start : tie.Start invariant-loop2 decreases-loop2 invariant-loop decreases-loop
+module _ (c : tie.After-first-m invariant-loop-m decreases-loop-m invariant-loop-left decreases-loop-left) where
+  abbrev start : tie.Start invariant-loop-m decreases-loop-m invariant-loop-left decreases-loop-left
   start = c.before.before.before.before.before
 
   abbrev left : ℕ
-  left = c.before.before.loop.left
+  left = c.before.before.loop-left.left
 
-  turn : Taken left c.first.result
-  turn = taken _ _ c.first.ensures c.before.before.loop.invariant.0 c.before.loop-test.true
+  turn : Taken left c.first-m.result
+  turn = taken _ _ c.first-m.ensures c.before.before.loop-left.invariant.0 c.before.loop-left-test.true
 
   bounds : (m : ℕ) → Member left m → (start.args.from ≤ m) × (m < start.args.width)
-  bounds = c.before.before.loop.invariant.2
+  bounds = c.before.before.loop-left.invariant.2
 
   room : (m : ℕ) → Member left m → start.args.base + m < length start.args.rows.now
-  room m h = omega (arith, start.pre.1, (bounds m h).1)
+  room m h = omega (arith, start.requires.1, (bounds m h).1)
 
   row-leads : (m : ℕ) → Member left m → (j : ℕ) → Member (get_or start.args.rows.now (start.args.base + m) 0) j ↔ RowLeads start.args.rows.now start.args.base start.args.from start.args.width m j
   row-leads m h j = (λ k. ((bounds m h).0, (bounds m h).1, k), λ p. p.2)
 
   -- the member's row is gathered, and those after it are left
-  gathers : Gathered (RowLeads start.args.rows.now start.args.base start.args.from start.args.width) (Member start.args.set) (After left c.first.result)
-      (bit_or c.before.before.loop.all (get_or start.args.rows.now (start.args.base + c.first.result) 0))
+  gathers : Gathered (RowLeads start.args.rows.now start.args.base start.args.from start.args.width) (Member start.args.set) (After left c.first-m.result)
+      (bit_or c.before.before.loop-left.all (get_or start.args.rows.now (start.args.base + c.first-m.result) 0))
   gathers =
-      gathered_more _ _ _ _ c.before.before.loop.invariant.1 (After left c.first.result) (λ x h. h.0) _ turn.here
-      (λ x h n. let low : x < c.first.result → ⊥ = λ l. c.first.ensures.none_below x l h in (h, omega arith)) _ (row-leads _ turn.here)
+      gathered_more _ _ _ _ c.before.before.loop-left.invariant.1 (After left c.first-m.result) (λ x h. h.0) _ turn.here
+      (λ x h n. let low : x < c.first-m.result → ⊥ = λ l. c.first-m.ensures.none_below x l h in (h, omega arith)) _ (row-leads _ turn.here)
 
 -- the run that it begins: its members, up to the last
-module _ (c : tie.After-first2 invariant-loop2 decreases-loop2 invariant-loop decreases-loop) where
-  abbrev taking : tie.After-first invariant-loop2 decreases-loop2 invariant-loop decreases-loop
+module _ (c : tie.After-first invariant-loop-m decreases-loop-m invariant-loop-left decreases-loop-left) where
+  abbrev taking : tie.After-first-m invariant-loop-m decreases-loop-m invariant-loop-left decreases-loop-left
   taking = c.before.before.before.before
 
   abbrev last : ℕ
-  last = taking.first.result + c.first2.result - 1
+  last = taking.first-m.result + c.first.result - 1
 
   fits : left taking < 2 ^ 64
-  fits = taking.before.before.loop.inv.0
+  fits = taking.before.before.loop-left.invariant.0
 
-  some : 1 ≤ c.first2.result
-  some = run_some _ _ _ fits c.first2.ensures (turn taking).here
+  some : 1 ≤ c.first.result
+  some = run_some _ _ _ fits c.first.ensures (turn taking).here
 
-  low : c.first2.result + taking.first.result ≤ 64
-  low = run_low _ _ _ fits c.first2.ensures (turn taking).here
+  low : c.first.result + taking.first-m.result ≤ 64
+  low = run_low _ _ _ fits c.first.ensures (turn taking).here
 
-  run : (m : ℕ) → taking.first.result ≤ m → m ≤ last → Member (left taking) m
+  run : (m : ℕ) → taking.first-m.result ≤ m → m ≤ last → Member (left taking) m
   run m a b =
-      let e : m - taking.first.result + taking.first.result ≡ m = omega arith in
-      rw e at (run_member _ _ _ fits c.first2.ensures (m - taking.first.result) (omega (arith, some)))
+      let e : m - taking.first-m.result + taking.first-m.result ≡ m = omega arith in
+      rw e at (run_member _ _ _ fits c.first.ensures (m - taking.first-m.result) (omega (arith, some)))
 
   at_last : Member (left taking) last
   at_last = run last (omega (arith, some)) (omega arith)
 
 -- the member after m
-follows : (c : tie.In-loop2 invariant-loop2 decreases-loop2 invariant-loop decreases-loop) → Member (left (taking c.before.before)) (c.before.loop2.m + 1)
-follows c = run c.before.before _ (omega (arith, c.before.loop2.invariant.0)) (omega (arith, c.loop2-test.true))
+follows : (c : tie.In-loop-m invariant-loop-m decreases-loop-m invariant-loop-left decreases-loop-left) → Member (left (taking c.before.before)) (c.before.loop-m.m + 1)
+follows c = run c.before.before _ (omega (arith, c.before.loop-m.invariant.0)) (omega (arith, c.loop-m-test.true))
 
-loop-holds : tie.Need-loop-init invariant-loop2 decreases-loop2 invariant-loop decreases-loop
+loop-holds : tie.Need-loop-left-init invariant-loop-m decreases-loop-m invariant-loop-left decreases-loop-left
 loop-holds c =
     let e = c.before.before in
     let a = e.args in
@@ -94,53 +94,53 @@ loop-holds c =
       λ m h. let p = (both m).0 h in (((cut m).0 p.0).1, p.1),
     )
 
-loop-again : tie.Need-loop-preserved invariant-loop2 decreases-loop2 invariant-loop decreases-loop
+loop-again : tie.Need-loop-left-preserved-then-runs-m-eq0 invariant-loop-m decreases-loop-m invariant-loop-left decreases-loop-left
 loop-again c =
     let f = c.before.before.before in
     let t = turn f in (
-      omega (arith, f.before.before.loop.invariant.0, t.less),
-      gathered_same _ _ _ _ (gathers f) _ (λ x h. let p = (t.rest x).0 h in let low : x < f.first.result → ⊥ = λ l. f.first.ensures.none_below x l p.0 in (p.0, omega (arith, p.1)))
+      omega (arith, f.before.before.loop-left.invariant.0, t.less),
+      gathered_same _ _ _ _ (gathers f) _ (λ x h. let p = (t.rest x).0 h in let low : x < f.first-m.result → ⊥ = λ l. f.first-m.ensures.none_below x l p.0 in (p.0, omega (arith, p.1)))
           (λ x h. (t.rest x).1 (h.0, λ q. omega (arith, h.1))),
       λ m h. bounds f m ((t.rest m).0 h).0,
     )
 
-loop2-holds : tie.Need-loop2-init invariant-loop2 decreases-loop2 invariant-loop decreases-loop
+loop2-holds : tie.Need-loop-m-init invariant-loop-m decreases-loop-m invariant-loop-left decreases-loop-left
 loop2-holds c = (omega arith, omega (arith, some c), gathers (taking c))
 
-loop2-again : tie.Need-loop2-preserved invariant-loop2 decreases-loop2 invariant-loop decreases-loop
+loop2-again : tie.Need-loop-m-preserved invariant-loop-m decreases-loop-m invariant-loop-left decreases-loop-left
 loop2-again c =
-    let l = c.before.before.loop2 in
+    let l = c.before.before.loop-m in
     let f = taking c.before.before.before in
     let m = follows c.before in (
       omega (arith, l.invariant.0),
-      omega (arith, c.before.loop2-test.true),
+      omega (arith, c.before.loop-m-test.true),
       gathered_more _ _ _ _ l.invariant.2 (After (left f) (l.m + 1)) (λ x h. (h.0, omega (arith, h.1))) (l.m + 1) (m, omega arith) (λ x h n. (h.0, omega (arith, h.1))) _ (row-leads f _ m),
     )
 
-loop-again-2 : tie.Need-loop-preserved-2 invariant-loop2 decreases-loop2 invariant-loop decreases-loop
+loop-again-2 : tie.Need-loop-left-preserved invariant-loop-m decreases-loop-m invariant-loop-left decreases-loop-left
 loop-again-2 c =
     let b = c.before.before in
-    let l = c.before.loop2 in
+    let l = c.before.loop-m in
     let f = taking b in
     let past = past_member _ _ (fits b) (at_last b) in
-    let end : l.m ≡ last b = omega (arith, l.invariant.1, c.loop2-test.false) in (
+    let end : l.m ≡ last b = omega (arith, l.invariant.1, c.loop-m-test.false) in (
       omega (arith, past_less _ _ (fits b) (at_last b), fits b),
       gathered_same _ _ _ _ l.invariant.2 _ (λ x h. rw end ((past x).0 h)) (λ x h. (past x).1 (rw end at h)),
       λ m h. bounds f m ((past m).0 h).0,
     )
 
-returns-2 : tie.Need-returns-2 invariant-loop2 decreases-loop2 invariant-loop decreases-loop
-returns-2 c = union_is _ _ _ _ _ _ (gathered_all _ _ _ _ c.before.loop.invariant.1 (λ m h. none_member m (rw c.loop-test.false at h)))
+returns-2 : tie.Need-returns invariant-loop-m decreases-loop-m invariant-loop-left decreases-loop-left
+returns-2 c = union_is _ _ _ _ _ _ (gathered_all _ _ _ _ c.before.loop-left.invariant.1 (λ m h. none_member m (rw c.loop-left-test.false at h)))
 
-pub union-spec : {M : Type 1} → statement M
-union-spec =
+pub union_spec : {M : Type 1} → statement M
+union_spec =
     tie.close
     (tie.spec
-    invariant-loop2
-    decreases-loop2
-    invariant-loop
-    decreases-loop
-    (λ c. union_none _ _ _ _ _ c.if1.true)
+    invariant-loop-m
+    decreases-loop-m
+    invariant-loop-left
+    decreases-loop-left
+    (λ c. union_none _ _ _ _ _ c.if-width-from.true)
     (λ c. search rules) (λ c. search rules) (λ c. search rules) (λ c. search rules)
     loop-holds
     (λ c κs. search rules) (λ c. search rules)
