@@ -7,45 +7,45 @@ use Rattle.grammar.proofs.ReadingLaws.{each_none, each_short, each_bad, each_mor
 use Rattle.grammar.proofs.reading.pass_flags.Statement.{statement}
 use Rattle.grammar.proofs.reading.pass_flags.Tie as tie
 
-abbrev invariant-loop : tie.invariant-loop
-invariant-loop g count at here₀ left₀ here left = flags_from g left here ≡ flags_from g count at
+abbrev invariant-loop-left : tie.invariant-loop-left
+invariant-loop-left g count at here₀ left₀ here left = flags_from g left here ≡ flags_from g count at
 
-abbrev decreases-loop : tie.decreases-loop
-decreases-loop g count at here₀ left₀ here left = left
+abbrev decreases-loop-left : tie.decreases-loop-left
+decreases-loop-left g count at here₀ left₀ here left = left
 
-loop-holds : tie.Need-loop-init invariant-loop decreases-loop
+loop-holds : tie.Need-loop-left-init invariant-loop-left decreases-loop-left
 loop-holds c = refl
 
-returns : tie.Need-returns invariant-loop decreases-loop
-returns c = sym (each_short _ _ _ _ _ c.before.loop-test.true c.if1.true) ∙ c.before.before.loop.invariant
+returns : tie.Need-returns-then-g-here invariant-loop-left decreases-loop-left
+returns c = sym (each_short _ _ _ _ _ c.loop-left-test.true c.if-g-here.true) ∙ c.loop-left.invariant
 
-shared-slice-read-if2 : tie.Need-shared-slice-read-if2 invariant-loop decreases-loop
+shared-slice-read-if2 : tie.Need-bounds-g-here invariant-loop-left decreases-loop-left
 shared-slice-read-if2 c = omega arith
 
-returns-2 : tie.Need-returns-2 invariant-loop decreases-loop
-returns-2 c = let turn = c.before.before.before in sym (each_bad _ _ _ _ _ turn.loop-test.true c.before.before.if1.false (lt-leb _ _ c.if2.true)) ∙ turn.before.loop.invariant
+returns-2 : tie.Need-returns-then-g-here-gt1 invariant-loop-left decreases-loop-left
+returns-2 c = sym (each_bad _ _ _ _ _ c.loop-left-test.true c.if-g-here.false (lt-leb _ _ c.if-g-here-gt1.true)) ∙ c.loop-left.invariant
 
-add-here : tie.Need-overflow-add-here invariant-loop decreases-loop
+add-here : tie.Need-overflow_add-here invariant-loop-left decreases-loop-left
 add-here c = omega arith
 
-sub-left : tie.Need-overflow-sub-left invariant-loop decreases-loop
+sub-left : tie.Need-overflow_sub-left invariant-loop-left decreases-loop-left
 sub-left c = omega arith
 
-loop-less : tie.Need-loop-smaller invariant-loop decreases-loop
+loop-less : tie.Need-loop-left-smaller invariant-loop-left decreases-loop-left
 loop-less c = omega arith
 
-loop-again : tie.Need-loop-preserved invariant-loop decreases-loop
-loop-again c = let turn = c.before.before.before in sym (each_more _ _ _ _ _ turn.loop-test.true c.before.before.if1.false (le-leb _ _ c.if2.false)) ∙ turn.before.loop.invariant
+loop-again : tie.Need-loop-left-preserved invariant-loop-left decreases-loop-left
+loop-again c = sym (each_more _ _ _ _ _ c.loop-left-test.true c.if-g-here.false (le-leb _ _ c.if-g-here-gt1.false)) ∙ c.loop-left.invariant
 
-returns-3 : tie.Need-returns-3 invariant-loop decreases-loop
-returns-3 c = sym (each_none _ _ _ _ _ c.loop-test.false) ∙ c.before.loop.invariant
+returns-3 : tie.Need-returns invariant-loop-left decreases-loop-left
+returns-3 c = sym (each_none _ _ _ _ _ c.loop-left-test.false) ∙ c.loop-left.invariant
 
-pub pass-flags-spec : {M : Type 1} → statement M
-pass-flags-spec =
+pub pass_flags_spec : {M : Type 1} → statement M
+pass_flags_spec =
     tie.close
     (tie.spec
-    invariant-loop
-    decreases-loop
+    invariant-loop-left
+    decreases-loop-left
     loop-holds
     returns
     shared-slice-read-if2

@@ -30,53 +30,46 @@ record SoFar (g : List ℕ) (t n count first : ℕ) (words before latest : List 
   kept : Kept rules words before latest
   rest : rules_from g t n rules (count - p) here ≡ rules_from g t n [] count first
 
-abbrev invariant-loop : tie.invariant-loop
-invariant-loop g t n count first words₀ before₀ latest₀ here₀ p₀ words before latest here p = SoFar g t n count first words before latest here p
+abbrev invariant-loop-p : tie.invariant-loop-p
+invariant-loop-p g t n count first words₀ before₀ latest₀ here₀ p₀ words before latest here p = SoFar g t n count first words before latest here p
 
-abbrev decreases-loop : tie.decreases-loop
-decreases-loop g t n count first words₀ before₀ latest₀ here₀ p₀ words before latest here p = count - p
+abbrev decreases-loop-p : tie.decreases-loop-p
+decreases-loop-p g t n count first words₀ before₀ latest₀ here₀ p₀ words before latest here p = count - p
 
-loop-holds : tie.Need-loop-init invariant-loop decreases-loop
-loop-holds c = let z : c.before.args.count - 0 ≡ c.before.args.count = omega arith in record { few = omega arith; rules = []; many = refl; kept = kept_none; rest = rw z }
+loop-holds : tie.Need-loop-p-init invariant-loop-p decreases-loop-p
+loop-holds c = let z : c.args.count - 0 ≡ c.args.count = omega arith in record { few = omega arith; rules = []; many = refl; kept = kept_none; rest = rw z }
 
-returns : tie.Need-returns invariant-loop decreases-loop
+returns : tie.Need-returns-in-Stop invariant-loop-p decreases-loop-p
 returns c =
-    let r = c.before.before.before in
-    let l = r.before.before.loop in
-    let stopped = given_stop _ _ (sym r.pass-rule.ensures ∙ c.before.refusal.given.1) in
-    sym (rules_stop _ _ _ l.invariant.rules _ l.p l.here _ r.before.loop-test.true stopped) ∙ l.invariant.rest
+    let l = c.loop-p in
+    let stopped = given_stop _ _ (sym c.pass_rule.ensures ∙ c.in-Stop.is) in
+    sym (rules_stop _ _ _ l.invariant.rules _ l.p l.here _ c.loop-p-test.true stopped) ∙ l.invariant.rest
 
--- the moment when a rule has been passed over, the turn of the loop in which that is, and the function's entry
+-- the moment when a rule has been passed over
 abbrev Passed : Type 0
-Passed = tie.After-shared-slice-known2 invariant-loop decreases-loop
-
-abbrev turn : Passed → tie.In-loop invariant-loop decreases-loop
-turn s = s.before.before.before.before.before
-
-abbrev entry : Passed → tie.Start invariant-loop decreases-loop
-entry s = (turn s).before.before.before
+Passed = tie.In-To invariant-loop-p decreases-loop-p
 
 -- the bytes, where the rule stands, and its word
 abbrev bytes : Passed → List ℕ
-bytes s = (entry s).args.g.now
+bytes s = s.args.g.now
 
 abbrev here : Passed → ℕ
-here s = (turn s).before.loop.here
+here s = s.loop-p.here
 
 abbrev word : Passed → ℕ
-word s = s.before.before.next.given.0.1.0
+word s = s.in-To.word
 
 -- the rule is whole, and this is its word
 given :
     (s : Passed) →
-    (rule_from (bytes s) (entry s).args.t (entry s).args.n (here s) ≡ To s.before.before.next.given.0.0) × (word_of (standing (bytes s) (here s)).right ≡ word s)
-given s = given_to _ _ (sym s.before.before.before.before.pass-rule.ensures ∙ s.before.before.next.given.1)
+    (rule_from (bytes s) s.args.t s.args.n (here s) ≡ To s.in-To.next) × (word_of (standing (bytes s) (here s)).right ≡ word s)
+given s = given_to _ _ (sym s.pass_rule.ensures ∙ s.in-To.is)
 
-passed : (s : Passed) → RulePassed (bytes s) (entry s).args.t (entry s).args.n (here s)
+passed : (s : Passed) → RulePassed (bytes s) s.args.t s.args.n (here s)
 passed s = (rule_to _ _ _ _ _ (given s).0).1
 
 plain : (s : Passed) → Plain (standing (bytes s) (here s))
-plain s = passed_plain _ _ _ _ (entry s).pre.0 (entry s).pre.1 (passed s)
+plain s = passed_plain _ _ _ _ s.requires.0 s.requires.1 (passed s)
 
 -- its chain, and the entry of that
 abbrev chain : Passed → ℕ
@@ -89,85 +82,85 @@ chain-is s = ap (λ (w : ℕ). byte (bytes s) (here s) * 37 + w % 37) (sym (give
 chain-low : (s : Passed) → chain s < 1184
 chain-low s = rw (chain-is s) (chain_few _ (plain s))
 
-few : (s : Passed) → (turn s).before.loop.p < 128
-few s = omega (arith, (turn s).loop-test.taken, (entry s).pre.2)
+few : (s : Passed) → s.loop-p.p < 128
+few s = omega (arith, s.loop-p-test.true, s.requires.2)
 
 abbrev head : Passed → ℕ
-head s = get_or (turn s).before.loop.latest (chain s) 0
+head s = get_or s.loop-p.latest (chain s) 0
 
 head-low : (s : Passed) → head s ≤ 128
-head-low s = let l = (turn s).before.loop in omega (arith, kept_entry _ _ _ _ l.inv.kept (chain s), l.inv.many, few s)
+head-low s = let l = s.loop-p in omega (arith, kept_entry _ _ _ _ l.invariant.kept (chain s), l.invariant.many, few s)
 
 -- the rule repeats an earlier one exactly when its word is on its chain
 repeated :
-    (s : Passed) → let l = (turn s).before.loop in
-    ((q : ℕ) × OnChain l.before (head s) q × (get_or l.words q 0 ≡ word s)) ↔ (is_repeated (standing (bytes s) (here s)) l.inv.rules ≡ true)
-repeated s = kept_repeated _ _ _ _ (turn s).before.loop.inv.kept (standing (bytes s) (here s)) (plain s) (word s) (chain s) (given s).1 (chain-is s)
+    (s : Passed) → let l = s.loop-p in
+    ((q : ℕ) × OnChain l.before (head s) q × (get_or l.words q 0 ≡ word s)) ↔ (is_repeated (standing (bytes s) (here s)) l.invariant.rules ≡ true)
+repeated s = kept_repeated _ _ _ _ s.loop-p.invariant.kept (standing (bytes s) (here s)) (plain s) (word s) (chain s) (given s).1 (chain-is s)
 
-cast-chain : tie.Need-overflow-cast-chain invariant-loop decreases-loop
-cast-chain c = omega (arith, chain-low c)
+cast-chain : tie.Need-overflow_cast-chain invariant-loop-p decreases-loop-p
+cast-chain c = omega (arith, chain-low c.before)
 
-mul-chain : tie.Need-overflow-mul-chain invariant-loop decreases-loop
-mul-chain c = omega (arith, chain-low c)
+mul-chain : tie.Need-overflow_mul-chain invariant-loop-p decreases-loop-p
+mul-chain c = omega (arith, chain-low c.before)
 
-add-chain : tie.Need-overflow-add-chain invariant-loop decreases-loop
-add-chain c = omega (arith, chain-low c)
+add-chain : tie.Need-overflow_add-chain invariant-loop-p decreases-loop-p
+add-chain c = omega (arith, chain-low c.before)
 
-on-chain-requires : tie.Need-on-chain-requires invariant-loop decreases-loop
+on-chain-requires : tie.Need-on_chain-requires invariant-loop-p decreases-loop-p
 on-chain-requires c κs =
-    let s = c.before.before in
-    let k = (turn s).before.loop.invariant.kept in
+    let s = c.before.before.before in
+    let k = s.loop-p.invariant.kept in
     (k.words_long, k.before_long, k.falls, head-low s)
 
-returns-2 : tie.Need-returns-2 invariant-loop decreases-loop
+returns-2 : tie.Need-returns-then-on_chain invariant-loop-p decreases-loop-p
 returns-2 c =
-    let s = c.before.before.before.before in
-    let l = (turn s).before.loop in
-    let same = (repeated s).0 (c.before.on_chain.ensures.0 c.if1.true) in
-    sym (rules_repeat _ _ _ l.inv.rules _ l.p l.here _ (turn s).loop-test.true (given s).0 same) ∙ l.inv.rest
+    let s = c.before.before.before.before.before in
+    let l = s.loop-p in
+    let same = (repeated s).0 (c.on_chain.ensures.0 c.if-on_chain.true) in
+    sym (rules_repeat _ _ _ l.invariant.rules _ l.p l.here _ s.loop-p-test.true (given s).0 same) ∙ l.invariant.rest
 
 -- the moment when it was found to be new
-abbrev found : tie.Else1 invariant-loop decreases-loop → Passed
-found c = c.before.before.before.before
+abbrev found : tie.Else-on_chain invariant-loop-p decreases-loop-p → Passed
+found c = c.before.before.before.before.before
 
-new : (c : tie.Else1 invariant-loop decreases-loop) → is_repeated (standing (bytes (found c)) (here (found c))) (turn (found c)).before.loop.inv.rules ≡ false
-new c = repeated_not _ _ (λ e. false≢true (sym c.if1.false ∙ c.before.on_chain.ensures.1 ((repeated (found c)).1 e)))
+new : (c : tie.Else-on_chain invariant-loop-p decreases-loop-p) → is_repeated (standing (bytes (found c)) (here (found c))) ((found c)).loop-p.invariant.rules ≡ false
+new c = repeated_not _ _ (λ e. false≢true (sym c.if-on_chain.false ∙ c.on_chain.ensures.1 ((repeated (found c)).1 e)))
 
-loop-again : tie.Need-loop-preserved invariant-loop decreases-loop
+loop-again : tie.Need-loop-p-preserved invariant-loop-p decreases-loop-p
 loop-again c =
     let s = found c in
-    let l = (turn s).before.loop in
+    let l = s.loop-p in
     let rule = standing (bytes s) (here s) in
     record {
       few = omega arith;
-      rules = l.inv.rules ++ (rule ∷ []);
-      many = length-append l.inv.rules (rule ∷ []) ∙ ap (λ (k : ℕ). k + 1) l.inv.many;
-      kept = kept_more _ _ _ _ l.inv.kept rule (plain s) (omega (arith, l.inv.many, few s)) l.p (word s) (chain s) l.inv.many (given s).1 (chain-is s);
-      rest = sym (rules_more _ _ _ l.inv.rules _ l.p l.here _ (turn s).loop-test.taken (given s).0 (new c)) ∙ l.inv.rest;
+      rules = l.invariant.rules ++ (rule ∷ []);
+      many = length-append l.invariant.rules (rule ∷ []) ∙ ap (λ (k : ℕ). k + 1) l.invariant.many;
+      kept = kept_more _ _ _ _ l.invariant.kept rule (plain s) (omega (arith, l.invariant.many, few s)) l.p (word s) (chain s) l.invariant.many (given s).1 (chain-is s);
+      rest = sym (rules_more _ _ _ l.invariant.rules _ l.p l.here _ s.loop-p-test.true (given s).0 (new c)) ∙ l.invariant.rest;
     }
 
-returns-3 : tie.Need-returns-3 invariant-loop decreases-loop
-returns-3 c = sym (rules_none _ _ _ c.before.loop.invariant.rules _ _ _ c.loop-test.false) ∙ c.before.loop.invariant.rest
+returns-3 : tie.Need-returns invariant-loop-p decreases-loop-p
+returns-3 c = sym (rules_none _ _ _ c.loop-p.invariant.rules _ _ _ c.loop-p-test.false) ∙ c.loop-p.invariant.rest
 
-pub pass-rules-spec : {M : Type 1} → statement M
-pass-rules-spec =
+pub pass_rules_spec : {M : Type 1} → statement M
+pass_rules_spec =
     tie.close
     (tie.spec
-    invariant-loop
-    decreases-loop
+    invariant-loop-p
+    decreases-loop-p
     loop-holds
     (λ c κs. search rules)
     (λ c. search rules)
     returns
     (λ c. search rules)
-    (λ c. omega (arith, (passed c).stands.inside))
+    (λ c. omega (arith, (passed c.before).stands.inside))
     cast-chain
     mul-chain
     add-chain
-    chain-low
+    (λ c. chain-low c.before)
     (λ c. search rules)
     (λ c. search rules)
-    (λ c. omega (arith, head-low c.before.before))
+    (λ c. omega (arith, head-low c.before.before.before))
     on-chain-requires
     returns-2
     (λ c. omega (arith, few (found c)))

@@ -6,35 +6,34 @@ use Rattle.grammar.specs.Reading.{rules_section}
 use Rattle.grammar.proofs.reading.pass_rules_section.Statement.{statement}
 use Rattle.grammar.proofs.reading.pass_rules_section.Tie as tie
 
-returns : tie.Need-returns
+returns : tie.Need-returns-then-g-at
 unfolding rules_section
-returns c = simp (le-ltb _ _ c.if1.true)
+returns c = simp (le-ltb _ _ c.if-g-at.true)
 
-shared-slice-read-count : tie.Need-shared-slice-read-count
+shared-slice-read-count : tie.Need-bounds-g-at
 shared-slice-read-count c = search rules
 
-cast-count : tie.Need-overflow-cast-count
-cast-count c = omega (arith, c.shared-slice-known2.given c.before.before.before.args.at)
+cast-count : tie.Need-overflow_cast-count
+cast-count c = omega (arith, c.shared_slice_known-2-1.given c.args.at)
 
-returns-2 : tie.Need-returns-2
+returns-2 : tie.Need-returns-then-count-gt128
 unfolding rules_section
-returns-2 c = simp (lt-ltb _ _ c.before.before.if1.false, lt-leb _ _ c.if2.true)
+returns-2 c = simp (lt-ltb _ _ c.if-g-at.false, lt-leb _ _ c.if-count-gt128.true)
 
-add-pass-rules : tie.Need-overflow-add-pass-rules
+add-pass-rules : tie.Need-overflow_add-at
 add-pass-rules c = search rules
 
-pass-rules-requires : tie.Need-pass-rules-requires
+pass-rules-requires : tie.Need-pass_rules-requires
 pass-rules-requires c κs = search rules
 
-returns-3 : tie.Need-returns-3
+returns-3 : tie.Need-returns
 unfolding rules_section
 returns-3 c =
-    let e = c.before in
-    simp (lt-ltb _ _ e.before.before.if1.false, le-leb _ _ e.if2.false)
-    c.pass-rules.ensures
+    simp (lt-ltb _ _ c.if-g-at.false, le-leb _ _ c.if-count-gt128.false)
+    c.pass_rules.ensures
 
-pub pass-rules-section-spec : {M : Type 1} → statement M
-pass-rules-section-spec =
+pub pass_rules_section_spec : {M : Type 1} → statement M
+pass_rules_section_spec =
     tie.close
     (tie.spec
     returns

@@ -5,16 +5,16 @@ use Rattle.grammar.proofs.Accepted.{whole, class_flag_is}
 use Rattle.grammar.proofs.rules.class_flag.Statement.{statement}
 use Rattle.grammar.proofs.rules.class_flag.Tie as tie
 
-add-result : tie.Need-overflow-add-result
+add-result : tie.Need-overflow_add-result
 add-result c = search rules
 
-shared-slice-read-result : tie.Need-shared-slice-read-result
-shared-slice-read-result c = omega (arith, whole _ _ c.before.requires.0)
+shared-slice-read-result : tie.Need-bounds-g-class
+shared-slice-read-result c = omega (arith, whole _ _ c.requires.0)
 
 returns : tie.Need-returns
 returns c =
-    let h = c.before.requires in
+    let h = c.requires in
     (class_flag_is _ _ h.0 _ h.1, (whole _ _ h.0).class_flags _ h.1)
 
-pub class-flag-spec : {M : Type 1} → statement M
-class-flag-spec = tie.close (tie.spec add-result shared-slice-read-result returns)
+pub class_flag_spec : {M : Type 1} → statement M
+class_flag_spec = tie.close (tie.spec add-result shared-slice-read-result returns)

@@ -4,11 +4,11 @@ use Rattle.grammar.proofs.Accepted.{left_is}
 use Rattle.grammar.proofs.rules.rule_left.Statement.{statement}
 use Rattle.grammar.proofs.rules.rule_left.Tie as tie
 
-shared-slice-read-result : tie.Need-shared-slice-read-result
+shared-slice-read-result : tie.Need-bounds-g-at
 shared-slice-read-result c = search rules
 
 returns : tie.Need-returns
-returns c = left_is _ _ c.before.requires
+returns c = left_is _ _ c.requires
 
-pub rule-left-spec : {M : Type 1} → statement M
-rule-left-spec = tie.close (tie.spec shared-slice-read-result returns)
+pub rule_left_spec : {M : Type 1} → statement M
+rule_left_spec = tie.close (tie.spec shared-slice-read-result returns)

@@ -4,17 +4,17 @@ use Rattle.grammar.proofs.Accepted.{length_is}
 use Rattle.grammar.proofs.rules.rule_length.Statement.{statement}
 use Rattle.grammar.proofs.rules.rule_length.Tie as tie
 
-add-result : tie.Need-overflow-add-result
+add-result : tie.Need-overflow_add-result
 add-result c = search rules
 
-shared-slice-read-result : tie.Need-shared-slice-read-result
+shared-slice-read-result : tie.Need-bounds-g-at
 shared-slice-read-result c = search rules
 
-cast-result : tie.Need-overflow-cast-result
+cast-result : tie.Need-overflow_cast-result
 cast-result c = search rules
 
 returns : tie.Need-returns
-returns c = (length_is _ _ c.before.requires, c.before.requires.long)
+returns c = (length_is _ _ c.requires, c.requires.long)
 
-pub rule-length-spec : {M : Type 1} → statement M
-rule-length-spec = tie.close (tie.spec add-result shared-slice-read-result cast-result returns)
+pub rule_length_spec : {M : Type 1} → statement M
+rule_length_spec = tie.close (tie.spec add-result shared-slice-read-result cast-result returns)

@@ -33,61 +33,60 @@ filled_more f p at starts l e x =
       rest = λ q h. get_or-set_other starts p q at 0 (λ k. omega arith) ∙ x.rest q (omega arith);
     }
 
-abbrev invariant-loop : tie.invariant-loop
-invariant-loop g rules starts₀ at₀ p₀ starts at p = (p ≤ rules) × (at ≡ start_of g p at₀) × Filled (λ q. start_of g q at₀) p starts
+abbrev invariant-loop-p : tie.invariant-loop-p
+invariant-loop-p g rules starts₀ at₀ p₀ starts at p = (p ≤ rules) × (at ≡ start_of g p at₀) × Filled (λ q. start_of g q at₀) p starts
 
-abbrev decreases-loop : tie.decreases-loop
-decreases-loop g rules starts₀ at₀ p₀ starts at p = rules - p
+abbrev decreases-loop-p : tie.decreases-loop-p
+decreases-loop-p g rules starts₀ at₀ p₀ starts at p = rules - p
 
-loop-holds : tie.Need-loop-init invariant-loop decreases-loop
+loop-holds : tie.Need-loop-p-init invariant-loop-p decreases-loop-p
 loop-holds c = (omega arith, sym (start_none _ _), filled_none _)
 
 -- there are at most 128 rules
-few : (c : tie.In-loop invariant-loop decreases-loop) → c.before.loop.p < 128
-few c = omega (arith, (whole _ _ c.before.before.before.requires).rules_high)
+few : (c : tie.In-loop-p invariant-loop-p decreases-loop-p) → c.loop-p.p < 128
+few c = omega (arith, (whole _ _ c.requires).rules_high)
 
 -- the rule that stands here
-here : (c : tie.In-loop invariant-loop decreases-loop) → Stands c.before.before.before.args.g.now c.before.loop.at
-here c = rw c.before.loop.invariant.1 (found _ _ c.before.before.before.requires c.before.loop.p (omega arith)).stands
+here : (c : tie.In-loop-p invariant-loop-p decreases-loop-p) → Stands c.args.g.now c.loop-p.at
+here c = rw c.loop-p.invariant.1 (found _ _ c.requires c.loop-p.p (omega arith)).stands
 
-mul-starts : tie.Need-overflow-mul-starts invariant-loop decreases-loop
+mul-starts : tie.Need-offset_bounds-starts-p invariant-loop-p decreases-loop-p
 mul-starts c = omega (arith, few c)
 
-array-write-starts : tie.Need-array-write-starts invariant-loop decreases-loop
+array-write-starts : tie.Need-bounds-starts-p invariant-loop-p decreases-loop-p
 array-write-starts c = omega (arith, few c)
 
-rule-after-requires : tie.Need-rule-after-requires invariant-loop decreases-loop
+rule-after-requires : tie.Need-rule_after-at-requires invariant-loop-p decreases-loop-p
 rule-after-requires c κs = here c
 
-add-p : tie.Need-overflow-add-p invariant-loop decreases-loop
+add-p : tie.Need-overflow_add-p invariant-loop-p decreases-loop-p
 add-p c = omega arith
 
-loop-less : tie.Need-loop-smaller invariant-loop decreases-loop
+loop-less : tie.Need-loop-p-smaller invariant-loop-p decreases-loop-p
 loop-less c = omega arith
 
-loop-again : tie.Need-loop-preserved invariant-loop decreases-loop
+loop-again : tie.Need-loop-p-preserved invariant-loop-p decreases-loop-p
 loop-again c =
-    let l = c.before.before.loop in
-    let start = c.before.before.before.before in
-    let e = c.rule_after.ensures ∙ ap (after start.args.g.now) l.invariant.1 ∙ sym (start_more _ l.p _) in
+    let l = c.loop-p in
+    let e = c.rule_after-at.ensures ∙ ap (after c.args.g.now) l.invariant.1 ∙ sym (start_more _ l.p _) in
     (omega arith, e, filled_more _ l.p l.at _ (few c.before) l.invariant.1 l.invariant.2)
 
-returns : tie.Need-returns invariant-loop decreases-loop
+returns : tie.Need-returns invariant-loop-p decreases-loop-p
 returns c =
-    let v = c.before.before.before.requires in
-    let x = c.before.loop.invariant.2 in
+    let v = c.requires in
+    let x = c.loop-p.invariant.2 in
     record {
       long = x.long;
       found = λ p h. rw (x.done p (omega arith)) (found _ _ v p h);
       rest = λ p h. x.rest p (omega arith);
     }
 
-pub rule-starts-spec : {M : Type 1} → statement M
-rule-starts-spec =
+pub rule_starts_spec : {M : Type 1} → statement M
+rule_starts_spec =
     tie.close
     (tie.spec
-    invariant-loop
-    decreases-loop
+    invariant-loop-p
+    decreases-loop-p
     loop-holds
     mul-starts
     array-write-starts

@@ -4,35 +4,35 @@ use Rattle.grammar.proofs.Accepted.{symbols_is}
 use Rattle.grammar.proofs.rules.rule_symbols.Statement.{statement}
 use Rattle.grammar.proofs.rules.rule_symbols.Tie as tie
 
-add_a : tie.Need-overflow-add-a
+add_a : tie.Need-overflow_add-a
 add_a c = search rules
 
-add-e : tie.Need-overflow-add-e
+add-e : tie.Need-overflow_add-e
 add-e c = search rules
 
-shared-slice-read-e : tie.Need-shared-slice-read-e
+shared-slice-read-e : tie.Need-bounds-g-at
 shared-slice-read-e c = search rules
 
-cast-e : tie.Need-overflow-cast-e
+cast-e : tie.Need-overflow_cast-e
 cast-e c = search rules
 
-add-e-2 : tie.Need-overflow-add-e-2
+add-e-2 : tie.Need-overflow_add-e-2
 add-e-2 c = search rules
 
-sub-result : tie.Need-overflow-sub-result
+sub-result : tie.Need-slice_bounds-result-count
 sub-result c = search rules
 
-part-result-start : tie.Need-slice-bounds-result-start
+part-result-start : tie.Need-slice_bounds-result-start
 part-result-start c = search rules
 
-part-result-end : tie.Need-slice-bounds-result-end
+part-result-end : tie.Need-slice_bounds-result-end
 part-result-end c = search rules
 
 returns : tie.Need-returns
-returns c = symbols_is _ _ c.before.before.requires
+returns c = symbols_is _ _ c.requires
 
-pub rule-symbols-spec : {M : Type 1} → statement M
-rule-symbols-spec =
+pub rule_symbols_spec : {M : Type 1} → statement M
+rule_symbols_spec =
     tie.close
     (tie.spec
     add_a
