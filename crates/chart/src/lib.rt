@@ -11,14 +11,14 @@ use grammar::reading::Reading;
 use refusals::Refusal;
 
 // What the chart question answers.
-#[derive(Drop)]
+#[derive(Clone, Copy)]
 pub enum ChartAnswer {
     Filled { rounds: usize, facts: usize },
     Refused(Refusal),
 }
 
 // What the question of the ends of (A, i) answers: the row, how many ends it shows, the smallest and the largest, positions::NO_END for both where there is none.
-#[derive(Drop)]
+#[derive(Clone, Copy)]
 pub enum EndsAnswer {
     Row {
         row: u64,

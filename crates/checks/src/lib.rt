@@ -9,7 +9,7 @@ ghost use Rattle.checks.specs.inner.Rest.{rest_check};
 use refusals::{Check, Refusal};
 
 // The numbers that a question asks with: none, a category and a start, a category and a span.
-#[derive(Drop)]
+#[derive(Clone, Copy)]
 pub enum Asked {
     Nothing,
     Start {

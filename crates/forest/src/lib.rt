@@ -19,7 +19,7 @@ use refusals::Refusal;
 
 // A record of the forest: the first place - 1 symbols of the rule derive start..middle and the symbol at the place derives middle..end.
 #[repr(C)]
-#[derive(Drop)]
+#[derive(Clone, Copy)]
 pub struct Branch {
     pub rule: u8,
     pub place: u8,
@@ -29,7 +29,7 @@ pub struct Branch {
 }
 
 // Where the writing stands: a record, where its rule stands, the middles of its place and start, and the ends after its own.
-#[derive(Drop)]
+#[derive(Clone, Copy)]
 struct Cursor {
     pub branch: Branch,
     pub at: usize,
@@ -65,14 +65,14 @@ fn next(g: &[u8], line: &[u8], words: &[u64], c: Cursor) -> Cursor
 }
 
 // What the forest question answers.
-#[derive(Drop)]
+#[derive(Clone, Copy)]
 pub enum ForestAnswer {
     Records { count: usize },
     Refused(Refusal),
 }
 
 // What is to be written: how many records, the cursor at the first, and the answer.
-#[derive(Drop)]
+#[derive(Clone, Copy)]
 struct Plan {
     pub n: usize,
     pub first: Cursor,

@@ -10,13 +10,13 @@ use super::{Branch, Cursor};
 use grammar::rules::{rule_after, rule_length};
 
 // A middle and the ends from it.
-#[derive(Drop)]
+#[derive(Clone, Copy)]
 pub struct Spot {
     pub middle: usize,
     pub ends: u64,
 }
 
-#[derive(Drop)]
+#[derive(Clone, Copy)]
 pub enum Sought {
     At(Cursor),
     Nowhere,

@@ -19,7 +19,7 @@ use super::chains::on_chain;
 use refusals::Refusal;
 
 // The three counts, where the category flags and rule 0 begin, and the end of the last rule. Class flags begin at 1.
-#[derive(Drop)]
+#[derive(Clone, Copy)]
 pub struct Sections {
     pub classes: usize,
     pub categories: usize,
@@ -29,21 +29,21 @@ pub struct Sections {
     pub end: usize,
 }
 
-#[derive(Drop)]
+#[derive(Clone, Copy)]
 pub enum Reading {
     Accepted(Sections),
     Refused(Refusal),
 }
 
 // Bytes were passed over up to a position, or the reading stops.
-#[derive(Drop)]
+#[derive(Clone, Copy)]
 pub enum Pass {
     To(usize),
     Stop(Refusal),
 }
 
 // The same of a rule, with its symbols as one word.
-#[derive(Drop)]
+#[derive(Clone, Copy)]
 pub enum RulePass {
     To(usize, u64),
     Stop(Refusal),

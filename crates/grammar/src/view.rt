@@ -8,7 +8,7 @@ use super::reading::Sections;
 use super::rules::rule_starts;
 
 // The bytes, the three counts, where the category flags and rule 0 begin, and the end of the last rule.
-#[derive(Drop)]
+#[derive(Clone, Copy)]
 pub struct View<'a> {
     pub bytes: &'a [u8],
     pub classes: usize,

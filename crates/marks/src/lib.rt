@@ -15,7 +15,7 @@ use grammar::rules::{category_flag, class_flag};
 use refusals::Refusal;
 
 // What the marks question answers: how many tokens are secret.
-#[derive(Drop)]
+#[derive(Clone, Copy)]
 pub enum MarksAnswer {
     Marked { secret: usize },
     Refused(Refusal),

@@ -52,7 +52,7 @@ pub fn last(set: u64) -> u32
 pub const NO_END: u32 = 255;
 
 // The smallest and the largest position of a set.
-#[derive(Drop)]
+#[derive(Clone, Copy)]
 pub struct Ends {
     pub smallest: u32,
     pub largest: u32,

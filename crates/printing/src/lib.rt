@@ -8,7 +8,7 @@ ghost use Rattle.printing.specs.Ended.{Ended};
 use report::write_piece;
 
 // How many pieces were asked for, whether the last of them was written, and whether another follows it.
-#[derive(Drop)]
+#[derive(Clone, Copy)]
 pub struct Progress {
     pub asked: usize,
     pub written: bool,

@@ -3,7 +3,7 @@
 ghost use Rattle.std.specs.Prelude.{◌≡◌};
 ghost use Rattle.refusals.specs.Row.{row_of};
 
-#[derive(Drop)]
+#[derive(Clone, Copy)]
 pub enum Refusal {
     // The grammar's bytes end early; length is how many there are.
     GrammarEndsEarly { length: usize },
@@ -31,14 +31,14 @@ pub enum Refusal {
 }
 
 // What one check finds.
-#[derive(Drop)]
+#[derive(Clone, Copy)]
 pub enum Check {
     Passed,
     Refused(Refusal),
 }
 
 // A row of the document's table: a refusal's number and place.
-#[derive(Drop)]
+#[derive(Clone, Copy)]
 pub struct Row {
     pub number: u8,
     pub place: usize,

@@ -5,14 +5,14 @@ ghost use Rattle.report.specs.Job.{job_of};
 use refusals::Refusal;
 
 // How many grammar bytes, tokens and questions a job has. The grammar stands at 2, the line at 3 + grammar, and the questions at 4 + grammar + line.
-#[derive(Drop)]
+#[derive(Clone, Copy)]
 pub struct Job {
     pub grammar: usize,
     pub line: usize,
     pub questions: usize,
 }
 
-#[derive(Drop)]
+#[derive(Clone, Copy)]
 pub enum JobReading {
     Read(Job),
     Refused(Refusal),

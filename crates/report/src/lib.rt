@@ -18,7 +18,7 @@ use refusals::Refusal;
 use sections::{write_chart, write_marked, write_tree};
 
 // How long a piece is, and whether another follows.
-#[derive(Drop)]
+#[derive(Clone, Copy)]
 pub struct Piece {
     pub length: usize,
     pub more: bool,

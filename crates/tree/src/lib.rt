@@ -26,7 +26,7 @@ use refusals::Refusal;
 use writing::write;
 
 // What the tree question answers.
-#[derive(Drop)]
+#[derive(Clone, Copy)]
 pub enum TreeAnswer {
     Nodes { count: usize },
     Refused(Refusal),

@@ -2,7 +2,7 @@
 ghost use Rattle.std.specs.Prelude.{◌≡◌, ◌+◌, ◌≤◌, ◌<◌, length};
 ghost use Rattle.tree.specs.Bytes.{rule_use, token_of, bytes_of, wrote};
 
-#[derive(Drop)]
+#[derive(Clone, Copy)]
 pub enum Kind {
     // A class.
     Token(u8),
@@ -10,7 +10,7 @@ pub enum Kind {
     Rule(u8),
 }
 
-#[derive(Drop)]
+#[derive(Clone, Copy)]
 pub struct Node {
     pub kind: Kind,
     pub start: u8,

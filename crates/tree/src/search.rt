@@ -7,7 +7,7 @@ use super::division::{NO_END, first_end, may_serve, sets_before};
 use grammar::rules::rule_symbols;
 
 // A rule and its division: the start of its first symbol, then the end of each symbol.
-#[derive(Drop)]
+#[derive(Clone, Copy)]
 pub struct Found {
     pub rule: usize,
     pub ends: [usize; 9],

@@ -6,14 +6,14 @@ ghost use Rattle.vectors.specs.Onward.{Onward};
 use printing::{job_room, piece_room, print};
 
 // What stands at a place and the place after it: a byte's value, 256 for any greater number, 257 for no digit.
-#[derive(Drop)]
+#[derive(Clone, Copy)]
 struct Number {
     pub value: usize,
     pub next: usize,
 }
 
 // The bytes of a line: how many they are, and whether each of its numbers is a byte.
-#[derive(Drop)]
+#[derive(Clone, Copy)]
 struct Numbers {
     pub count: usize,
     pub bytes: bool,

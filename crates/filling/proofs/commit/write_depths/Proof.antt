@@ -12,32 +12,32 @@ use Rattle.filling.proofs.DepthLaws.{deepened_none, deepened_less}
 use Rattle.filling.proofs.commit.write_depths.Statement.{statement}
 use Rattle.filling.proofs.commit.write_depths.Tie as tie
 
-abbrev invariant-loop : tie.invariant-loop
-invariant-loop depths₀ base set depth left₀ depths left =
+abbrev invariant-loop-left : tie.invariant-loop-left
+invariant-loop-left depths₀ base set depth left₀ depths left =
     (left ≤ set) × (length depths ≡ length depths₀) × ((j : ℕ) → Member left j → base + j < length depths₀) ×
     ((final : List ℕ) → Deepened base left depth depths final → Deepened base set depth depths₀ final)
 
-abbrev decreases-loop : tie.decreases-loop
-decreases-loop depths₀ base set depth left₀ depths left = left
+abbrev decreases-loop-left : tie.decreases-loop-left
+decreases-loop-left depths₀ base set depth left₀ depths left = left
 
 -- the member that a turn takes
-module _ (c : tie.After-first invariant-loop decreases-loop) where
-  abbrev entry : tie.Start invariant-loop decreases-loop
+module _ (c : tie.After-first-j invariant-loop-left decreases-loop-left) where
+  abbrev entry : tie.Start invariant-loop-left decreases-loop-left
   entry = c.before.before.before.before
 
-  turn : Taken c.before.before.loop.left c.first.result
-  turn = taken _ _ c.first.ensures (omega (arith, c.before.before.loop.invariant.0)) c.before.loop-test.true
+  turn : Taken c.loop-left.left c.first-j.result
+  turn = taken _ _ c.first-j.ensures (omega (arith, c.loop-left.invariant.0)) c.loop-left-test.true
 
-  room : let a = entry.args in a.base + c.first.result < length a.depths.now
-  room = c.before.before.loop.invariant.2 _ turn.here
+  room : let a = entry.args in a.base + c.first-j.result < length a.depths.now
+  room = c.loop-left.invariant.2 _ turn.here
 
-loop-holds : tie.Need-loop-init invariant-loop decreases-loop
-loop-holds c = (search rules, refl, c.before.requires, λ final d. d)
+loop-holds : tie.Need-loop-left-init invariant-loop-left decreases-loop-left
+loop-holds c = (search rules, refl, c.requires, λ final d. d)
 
-loop-again : tie.Need-loop-preserved invariant-loop decreases-loop
+loop-again : tie.Need-loop-left-preserved invariant-loop-left decreases-loop-left
 loop-again c =
     let a = (entry c).args in
-    let l = c.before.before.loop in
+    let l = c.loop-left in
     let t = turn c in (
       omega (arith, l.invariant.0, t.less),
       rw length-set l.invariant.1,
@@ -45,22 +45,23 @@ loop-again c =
       λ final d. l.invariant.3 final (deepened_less a.base a.depth _ _ t l.depths final (omega (arith, room c)) d),
     )
 
-returns : tie.Need-returns invariant-loop decreases-loop
+returns : tie.Need-returns invariant-loop-left decreases-loop-left
 returns c =
-    let a = c.before.before.before.args in
-    let l = c.before.loop in
-    l.invariant.3 l.depths (subst (λ (x : ℕ). Deepened a.base x a.depth l.depths l.depths) (sym c.loop-test.false) (deepened_none a.base a.depth l.depths))
+    let a = c.args in
+    let l = c.loop-left in
+    l.invariant.3 l.depths (subst (λ (x : ℕ). Deepened a.base x a.depth l.depths l.depths) (sym c.loop-left-test.false) (deepened_none a.base a.depth l.depths))
 
-pub write-depths-spec : {M : Type 1} → statement M
-write-depths-spec =
+pub write_depths_spec : {M : Type 1} → statement M
+write_depths_spec =
     tie.close
     (tie.spec
-    invariant-loop
-    decreases-loop
+    invariant-loop-left
+    decreases-loop-left
     loop-holds
     (λ c κs. search rules) (λ c. search rules) (λ c. omega (arith, room c)) (λ c. omega (arith, room c))
     (λ c. omega (arith, room c))
     (λ c. (turn c).some) (λ c. (turn c).less)
     loop-again
-    (λ c. c.before.loop.invariant.1)
+    (λ c. c.loop-left.invariant.1)
     returns)
+

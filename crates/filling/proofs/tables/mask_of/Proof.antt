@@ -8,45 +8,48 @@ use native.Mathlib.Omega.{arith}
 use lib.ListN.{length, get_or}
 use Rattle.filling.proofs.TableLaws.{MaskBelow, mask_none, mask_more, mask_skip, mask_empty, mask_some}
 use Rattle.filling.proofs.tables.mask_of.Statement.{statement}
+use Rattle.filling.proofs.tables.mask_of.Lts.{then-symbol-ge128, else-symbol-ge128}
 use Rattle.filling.proofs.tables.mask_of.Tie as tie
 
-abbrev invariant-loop : tie.invariant-loop
-invariant-loop symbols mask₀ d₀ mask d = (d ≤ length symbols) × MaskBelow symbols d mask
+abbrev invariant-loop-d : tie.invariant-loop-d
+invariant-loop-d symbols mask₀ d₀ mask d = (d ≤ length symbols) × MaskBelow symbols d mask
 
-abbrev decreases-loop : tie.decreases-loop
-decreases-loop symbols mask₀ d₀ mask d = length symbols - d
+abbrev decreases-loop-d : tie.decreases-loop-d
+decreases-loop-d symbols mask₀ d₀ mask d = length symbols - d
 
-loop-holds : tie.Need-loop-init invariant-loop decreases-loop
+loop-holds : tie.Need-loop-d-init invariant-loop-d decreases-loop-d
 loop-holds c = (omega arith, mask_none _)
 
 -- a symbol is a class or a category below 32
-symbol : (c : tie.In-loop invariant-loop decreases-loop) → get_or c.before.before.before.args.symbols.now c.before.loop.d 0 < 160
-symbol c = c.before.before.before.requires c.before.loop.d (omega arith)
+symbol : (c : tie.In-loop-d invariant-loop-d decreases-loop-d) → get_or c.args.symbols.now c.loop-d.d 0 < 160
+symbol c = c.requires c.loop-d.d (omega arith)
 
-loop-again : tie.Need-loop-preserved invariant-loop decreases-loop
+loop-again : tie.Need-loop-d-preserved invariant-loop-d decreases-loop-d
 loop-again c =
-    let l = c.before.before.before.loop in (
+    let l = c.loop-d in (
       omega arith,
-      ⊎_elim (λ w. rw w.2 (mask_more _ l.d l.mask _ w.0.taken w.1.ensures l.invariant.1))
-          (λ w. rw w.1 (mask_skip _ l.d l.mask w.0.left l.invariant.1)) c.if1.branch,
+      elim c.if-symbol-ge128.branch [
+        then-symbol-ge128 w ↦ rw w.mask-is (mask_more _ l.d l.mask _ w.if-symbol-ge128.true w.insert-mask.ensures l.invariant.1)
+      | else-symbol-ge128 w ↦ rw w.mask-is (mask_skip _ l.d l.mask w.if-symbol-ge128.false l.invariant.1)
+      ],
     )
 
 -- after the loop: the categories among all symbols
-all : (c : tie.After-loop invariant-loop decreases-loop) → let symbols = c.before.before.before.args.symbols.now in MaskBelow symbols (length symbols) c.before.loop.mask
-all c = let e : c.before.loop.d ≡ length c.before.before.before.args.symbols.now = omega arith in rw e at c.before.loop.invariant.1
+all : (c : tie.After-loop-d invariant-loop-d decreases-loop-d) → let symbols = c.args.symbols.now in MaskBelow symbols (length symbols) c.loop-d.mask
+all c = let e : c.loop-d.d ≡ length c.args.symbols.now = omega arith in rw e at c.loop-d.invariant.1
 
-returns : tie.Need-returns invariant-loop decreases-loop
-returns c = mask_empty _ _ (rw c.before.if2.true at (all c.before.before)) c.insert2.ensures
+returns : tie.Need-returns-then-mask-eq0 invariant-loop-d decreases-loop-d
+returns c = mask_empty _ _ (rw c.if-mask-eq0.true at (all c.before.before)) c.insert.ensures
 
-returns-2 : tie.Need-returns-2 invariant-loop decreases-loop
-returns-2 c = let after = c.before in mask_some _ _ after.before.before.before.requires (pos_of_ne-zero c.if2.false) (all after)
+returns-2 : tie.Need-returns-else-mask-eq0 invariant-loop-d decreases-loop-d
+returns-2 c = let after = c.before in mask_some _ _ after.requires (pos_of_ne-zero c.if-mask-eq0.false) (all after)
 
-pub mask-of-spec : {M : Type 1} → statement M
-mask-of-spec =
+pub mask_of_spec : {M : Type 1} → statement M
+mask_of_spec =
     tie.close
     (tie.spec
-    invariant-loop
-    decreases-loop
+    invariant-loop-d
+    decreases-loop-d
     loop-holds
     (λ c. search rules) (λ c. omega (arith, symbol c.before))
     (λ c κs. omega (arith, symbol c.before.before))
@@ -55,3 +58,4 @@ mask-of-spec =
     (λ c κs. search rules)
     returns
     returns-2)
+
