@@ -18,45 +18,46 @@ use Rattle.chart.proofs.chart.Tie as tie
 abbrev origin : tie.After-checked → tie.Start
 origin c = c.before.before.before.before.before
 
-passes : (c : tie.After-s) → let a = (origin c.before.before).args in Passes a.g.now a.line.now Nothing (length a.words.now) (length a.depths.now) c.s.given.0.0
-passes c = checked_accepted _ _ _ _ _ _ (sym c.before.before.checked.ensures ∙ c.s.given.1)
+passes : (c : tie.In-Accepted) → let a = (origin c.before).args in Passes a.g.now a.line.now Nothing (length a.words.now) (length a.depths.now) c.in-Accepted.s
+passes c = checked_accepted _ _ _ _ _ _ (sym c.checked.ensures ∙ c.in-Accepted.is)
 
 -- the chart is small
-small : (c : tie.After-s) → chart_size c.s.given.0.0.categories (length (origin c.before.before).args.line.now) ≤ 2048
+small : (c : tie.In-Accepted) → chart_size c.in-Accepted.s.categories (length (origin c.before).args.line.now) ≤ 2048
 small c = let p = passes c in chart_small _ _ (categories_few p) (line_is p).short
 
 -- the memory is filled, from where its lengths are known
-abbrev filled : tie.After-slice-known4 → tie.After-fill
+abbrev filled : tie.After-slice_known-4-1 → tie.After-fill-rounds
 filled c = c.before.before.before.before
 
 -- the checks have passed, from where the memory is filled
-abbrev asked : tie.After-fill → tie.After-s
-asked c = c.before.before.before.before
+abbrev asked : tie.After-fill-rounds → tie.In-Accepted
+asked c = c.before.before.before
 
-returns : tie.Need-returns
+returns : tie.Need-returns-in-Refused
 returns c =
-    let checks = c.before.before.before in
+    let checks = c.before in
     let a = (origin checks).args in
-    chart_turned _ _ _ _ _ (checked_refused a.g.now a.line.now Nothing a.words.now a.depths.now Passed Passed _ (sym checks.checked.ensures ∙ c.before.refusal.given.1))
+    chart_turned _ _ _ _ _ (checked_refused a.g.now a.line.now Nothing a.words.now a.depths.now Passed Passed _ (sym c.checked.ensures ∙ c.in-Refused.is))
 
-count-ends-requires : tie.Need-count-ends-requires
+count-ends-requires : tie.Need-count_ends-facts-requires
 count-ends-requires c κs =
-    let f = filled c.before.before in
-    (le_trans (memory_is (passes (asked f))).0 (le_of_eq (sym f.fill.ensures.work.words_long)), small (asked f))
+    let f = filled c.before in
+    (le_trans (memory_is (passes (asked f))).0 (le_of_eq (sym f.fill-rounds.ensures.work.words_long)), small (asked f))
 
-returns-2 : tie.Need-returns-2
-returns-2 c = let f = filled c.before.before.before in chart_filled _ _ _ _ _ _ _ _ _ (passes (asked f)) f.fill.ensures c.count-ends.ensures
+returns-2 : tie.Need-returns
+returns-2 c = let f = filled c.before.before in chart_filled _ _ _ _ _ _ _ _ _ (passes (asked f)) f.fill-rounds.ensures c.count_ends-facts.ensures
 
-pub chart-spec : {M : Type 1} → statement M
-chart-spec =
+pub chart_spec : {M : Type 1} → statement M
+chart_spec =
     tie.close
     (tie.spec
     (λ c κs. search rules) (λ c. search rules)
     returns
     (λ c. search rules)
-    (λ c κs. fillable (passes c.before.before.before))
+    (λ c κs. fillable (passes c.before.before))
     (λ c. search rules)
-    (λ c. omega (arith, small (asked (filled c.before.before))))
+    (λ c. omega (arith, small (asked (filled c.before))))
     count-ends-requires
     (λ c. search rules) (λ c. search rules)
     returns-2)
+

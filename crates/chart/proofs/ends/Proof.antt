@@ -19,58 +19,58 @@ use Rattle.chart.proofs.ends.Tie as tie
 abbrev origin : tie.After-checked → tie.Start
 origin c = c.before.before.before.before.before
 
-passes : (c : tie.After-s) → let a = (origin c.before.before).args in Passes a.g.now a.line.now (Start a.category a.start) (length a.words.now) (length a.depths.now) c.s.given.0.0
-passes c = checked_accepted _ _ _ _ _ _ (sym c.before.before.checked.ensures ∙ c.s.given.1)
+passes : (c : tie.In-Accepted) → let a = (origin c.before).args in Passes a.g.now a.line.now (Start a.category a.start) (length a.words.now) (length a.depths.now) c.in-Accepted.s
+passes c = checked_accepted _ _ _ _ _ _ (sym c.checked.ensures ∙ c.in-Accepted.is)
 
 -- the category is the grammar's, and the start is on the line
-inside : (c : tie.After-s) → let a = (origin c.before.before).args in (a.category < c.s.given.0.0.categories) × (a.start ≤ length a.line.now)
+inside : (c : tie.In-Accepted) → let a = (origin c.before).args in (a.category < c.in-Accepted.s.categories) × (a.start ≤ length a.line.now)
 inside c = start_passed _ _ _ _ (asked_is (passes c))
 
 -- the word that is read is one of the chart's
-in_chart : (c : tie.After-s) →
-    let a = (origin c.before.before).args in
-    a.category * (length a.line.now + 1) + a.start < chart_size c.s.given.0.0.categories (length a.line.now)
+in_chart : (c : tie.In-Accepted) →
+    let a = (origin c.before).args in
+    a.category * (length a.line.now + 1) + a.start < chart_size c.in-Accepted.s.categories (length a.line.now)
 in_chart c = let i = inside c in row_inside _ _ _ _ i.0 (omega (arith, i.1))
 
-small : (c : tie.After-s) → let a = (origin c.before.before).args in a.category * (length a.line.now + 1) + a.start < 2048
+small : (c : tie.In-Accepted) → let a = (origin c.before).args in a.category * (length a.line.now + 1) + a.start < 2048
 small c = let p = passes c in lt_of_lt_of_le (in_chart c) (chart_small _ _ (categories_few p) (line_is p).short)
 
 -- the memory is filled, from where its lengths are known
-abbrev filled : tie.After-slice-known4 → tie.After-fill
+abbrev filled : tie.After-slice_known-4-1 → tie.After-fill
 filled c = c.before.before.before.before
 
 -- the checks have passed, from where the memory is filled
-abbrev asked : tie.After-fill → tie.After-s
-asked c = c.before.before.before.before
+abbrev asked : tie.After-fill → tie.In-Accepted
+asked c = c.before.before.before
 
-returns : tie.Need-returns
+returns : tie.Need-returns-in-Refused
 returns c =
-    let checks = c.before.before.before in
+    let checks = c.before in
     let a = (origin checks).args in
     let asked = Start a.category a.start in
-    ends_turned _ _ _ _ _ _ _ (checked_refused a.g.now a.line.now asked a.words.now a.depths.now Passed Passed _ (sym checks.checked.ensures ∙ c.before.refusal.given.1))
+    ends_turned _ _ _ _ _ _ _ (checked_refused a.g.now a.line.now asked a.words.now a.depths.now Passed Passed _ (sym c.checked.ensures ∙ c.in-Refused.is))
 
-slice-read-row : tie.Need-slice-read-row
+slice-read-row : tie.Need-bounds-words-category
 slice-read-row c =
     let f = filled c.before in
     let s = asked f in
     omega (arith, in_chart s, (memory_is (passes s)).0, f.fill.ensures.work.words_long)
 
-returns-2 : tie.Need-returns-2
+returns-2 : tie.Need-returns
 returns-2 c =
     let f = filled c.before.before.before in
     let s = asked f in
     let i = inside s in
-    rw c.count.ensures (ends_found _ _ _ _ _ _ _ _ _ _ _ (passes s) i.0 i.1 f.fill.ensures.work c.before.both_ends.ensures)
+    rw c.count.ensures (ends_found _ _ _ _ _ _ _ _ _ _ _ (passes s) i.0 i.1 f.fill.ensures.work c.both_ends-both.ensures)
 
-pub ends-spec : {M : Type 1} → statement M
-ends-spec =
+pub ends_spec : {M : Type 1} → statement M
+ends_spec =
     tie.close
     (tie.spec
     (λ c κs. search rules) (λ c. search rules)
     returns
     (λ c. search rules)
-    (λ c κs. fillable (passes c.before.before.before))
+    (λ c κs. fillable (passes c.before.before))
     (λ c. search rules)
     (λ c. omega (arith, small (asked (filled c))))
     (λ c. omega (arith, small (asked (filled c))))
@@ -78,3 +78,4 @@ ends-spec =
     slice-read-row
     (λ c κs. search rules) (λ c κs. search rules) (λ c. search rules) (λ c. search rules)
     returns-2)
+

@@ -8,27 +8,27 @@ use Rattle.chart.proofs.work.checked.Statement.{statement}
 use Rattle.chart.proofs.work.checked.Tie as tie
 
 -- the grammar was accepted
-was_read : (c : tie.After-s) → let read = c.before.before in read_of read.before.before.before.args.g.now ≡ Accepted c.s.given.0.0
-was_read c = sym c.before.before.read.ensures ∙ c.s.given.1
+was_read : (c : tie.In-Accepted) → read_of c.args.g.now ≡ Accepted c.in-Accepted.s
+was_read c = sym c.read.ensures ∙ c.in-Accepted.is
 
-check-rest-requires : tie.Need-check-rest-requires
-check-rest-requires c κs = let read = was_read c.before in (whole _ _ (accepted _ _ read).0).categories_high
+check-rest-requires : tie.Need-check_rest-requires
+check-rest-requires c κs = let read = was_read c in (whole _ _ (accepted _ _ read).0).categories_high
 
-returns : tie.Need-returns
-returns c = simp (sym c.before.before.before.read.ensures ∙ c.before.refusal.given.1)
+returns : tie.Need-returns-in-Refused
+returns c = simp (sym c.read.ensures ∙ c.in-Refused.is)
 
-returns-2 : tie.Need-returns-2
+returns-2 : tie.Need-returns-in-Refused-check_rest
 returns-2 c =
-    let l = c.before.before.before in
-    simp (was_read l.before.before, sym l.check-rest.ensures ∙ c.before.refusal2.given.1)
+    let l = c.before.before in
+    simp (was_read l, sym c.check_rest.ensures ∙ c.in-Refused-check_rest.is)
 
-returns-3 : tie.Need-returns-3
+returns-3 : tie.Need-returns-in-Passed
 returns-3 c =
     let l = c.before.before in
-    simp (was_read l.before.before, sym l.check-rest.ensures ∙ c.enum_told.given.1)
+    simp (was_read l, sym c.check_rest.ensures ∙ c.in-Passed.is)
 
-pub checked-spec : {M : Type 1} → statement M
-checked-spec =
+pub checked_spec : {M : Type 1} → statement M
+checked_spec =
     tie.close
     (tie.spec
     (λ c κs. search rules) (λ c. search rules) (λ c. search rules)
@@ -37,3 +37,4 @@ checked-spec =
     returns
     returns-2
     returns-3)
+
