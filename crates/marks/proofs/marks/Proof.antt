@@ -16,54 +16,53 @@ use Rattle.marks.proofs.marks.Tie as tie
 abbrev origin : tie.After-checked → tie.Start
 origin c = c.before.before.before.before.before.before
 
-passes : (c : tie.After-s) → let a = (origin c.before.before).args in Passes a.g.now a.line.now Nothing (length a.words.now) (length a.depths.now) c.s.given.0.0
-passes c = checked_accepted _ _ _ _ _ _ (sym c.before.before.checked.ensures ∙ c.s.given.1)
+passes : (c : tie.In-Accepted) → let a = (origin c.before).args in Passes a.g.now a.line.now Nothing (length a.words.now) (length a.depths.now) c.in-Accepted.s
+passes c = checked_accepted _ _ _ _ _ _ (sym c.checked.ensures ∙ c.in-Accepted.is)
 
 -- the checks have passed, from where the memory is filled
-abbrev asked : tie.After-fill → tie.After-s
-asked c = c.before.before.before.before
+abbrev asked : tie.After-fill → tie.In-Accepted
+asked c = c.before.before.before
 
 -- the memory is filled, from where the room for marks is known
-abbrev filled : tie.After-slice-known5 → tie.After-fill
+abbrev filled : tie.After-slice_known-5-1 → tie.After-fill
 filled c = c.before.before.before.before
 
-returns : tie.Need-returns
+returns : tie.Need-returns-in-Refused
 returns c =
-    let checks = c.before.before.before in
+    let checks = c.before in
     let a = (origin checks).args in
     let room = marks_room a.line.now a.marks.now in
-    marks_turned _ _ _ _ _ _ (checked_refused a.g.now a.line.now Nothing a.words.now a.depths.now Passed room _ (sym checks.checked.ensures ∙ c.before.refusal.given.1))
+    marks_turned _ _ _ _ _ _ (checked_refused a.g.now a.line.now Nothing a.words.now a.depths.now Passed room _ (sym c.checked.ensures ∙ c.in-Refused.is))
 
-returns-2 : tie.Need-returns-2
+returns-2 : tie.Need-returns-then-marks-line
 returns-2 c =
     let f = filled c.before in
-    marks_no_room _ _ _ _ _ _ (passes (asked f)) _ _ c.if1.true f.fill.ensures.work
+    marks_no_room _ _ _ _ _ _ (passes (asked f)) _ _ c.if-marks-line.true f.fill.ensures.work
 
-mark-tokens-requires : tie.Need-mark-tokens-requires
+mark-tokens-requires : tie.Need-mark_tokens-requires
 mark-tokens-requires c κs =
-    let f = filled c.before.before.before in
+    let f = filled c.before.before in
     let p = passes (asked f) in
     let w = f.fill.ensures.work in
     let room = le_trans (memory_is p).0 (le_of_eq (sym w.words_long)) in
-    (sections p, line_is p, record { room = rw (category_count_lem _ _ (sections p)) room; word = w.word }, c.before.before.if1.false)
+    (sections p, line_is p, record { room = rw (category_count_lem _ _ (sections p)) room; word = w.word }, c.if-marks-line.false)
 
-returns-3 : tie.Need-returns-3
+returns-3 : tie.Need-returns
 returns-3 c =
-    let marked = c.before.before in
-    let room = marked.before.before.before in
-    let f = filled room.before in
-    marks_answered _ _ _ _ _ _ (passes (asked f)) _ _ _ _ room.if1.false f.fill.ensures.work marked.mark-tokens.ensures
+    let f = filled c.before.before.before.before.before in
+    marks_answered _ _ _ _ _ _ (passes (asked f)) _ _ _ _ c.if-marks-line.false f.fill.ensures.work c.mark_tokens.ensures
 
-pub marks-spec : {M : Type 1} → statement M
-marks-spec =
+pub marks_spec : {M : Type 1} → statement M
+marks_spec =
     tie.close
     (tie.spec
     (λ c κs. search rules) (λ c. search rules)
     returns
     (λ c. search rules)
-    (λ c κs. fillable (passes c.before.before.before))
+    (λ c κs. fillable (passes c.before.before))
     (λ c. search rules) (λ c. search rules)
     returns-2
     mark-tokens-requires
     (λ c. search rules) (λ c. search rules) (λ c. search rules)
     returns-3)
+
