@@ -1,4 +1,4 @@
-// Links libberylskip.a, from BERYLSKIP_LIB_DIR or from where `rt staticlib berylskip` writes it.
+// Links libberylskip.a, from BERYLSKIP_LIB_DIR or from target/staticlib, where the tools write it.
 use std::env;
 use std::path::PathBuf;
 
