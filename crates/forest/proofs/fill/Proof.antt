@@ -164,7 +164,7 @@ module _ {M : Type 1} {𝓤 : Ura M} (𝓛 : Logic 𝓤) (mem : Memory → SProp
   abbrev to-next : Cursor → (Next 𝓛 mem run).Ghost
   to-next e = (((κ₁, (κ₂, (κ₃, tt))), (q₁, (q₂, (q₃, tt))), tt, (x₁, (x₂, (x₃, (e, tt)))), (v₁ ∷ [], (v₂ ∷ [], (v₃ ∷ [], (vals-of e, tt))))), tt)
 
-  goes : (e : Cursor) → Good e → Charted x₁.now x₂.now x₃.now × Stood x₁.now x₂.now e → ent 𝓤 (sep 𝓤 (mean 𝓛 Toks) (sem 𝓛 Owns)) ((Next 𝓛 mem run).pre (to-next e))
+  goes : (e : Cursor) → Good e → Charted x₁.now x₂.now x₃.now × Stood x₁.now x₂.now e → ent 𝓤 (sep 𝓤 (mean 𝓛 Toks) (sem 𝓛 Owns)) ((Next 𝓛 mem run).requires (to-next e))
   goes e is ok =
       qed 𝓛 (Toks ∷ ‵ Owns ∷ []) ∵ says ! ok $ frame ! $ fsplit ! $ move ! (1 ∷ []) $ fsplit ! $ move ! (1 ∷ []) $ fsplit ! $ move ! (1 ∷ []) $ drop ! $
       nothing ! $ owned ! K.the_row (Is K.the_row) (LL.makes K.the_type K'.the_plain 𝓛) e _ is $ fjoin ! $ move ! (1 ∷ 0 ∷ []) $ fjoin ! $ move ! (1 ∷ 0 ∷ []) $ fjoin ! $ move ! (1 ∷ 0 ∷ []) $ fjoin ! $ done !
@@ -225,7 +225,7 @@ module _ {M : Type 1} {𝓤 : Ura M} (𝓛 : Logic 𝓤) (mem : Memory → SProp
           rewrite ! 0 (λ (z : Branch). ‵ (row T.the_row full_share (set (ls i) i z) b o)) (reached_record x₁.now x₂.now x₃.now d n writes i e small st) refl $
           -- `next`: it is lent a copy of each, at their own tokens
           move ! (5 ∷ []) $ use1 𝓛 (‵ Owns ⊛ ‵ Owns) two $ split ! $ move ! (6 ∷ 0 ∷ []) $
-          use2 𝓛 (raw ((Next 𝓛 mem run).pre (to-next e))) (goes e is ((st.at small).0, (st.at small).1)) $
+          use2 𝓛 (raw ((Next 𝓛 mem run).requires (to-next e))) (goes e is ((st.at small).0, (st.at small).1)) $
           -- [what `next` asks; what is lent by `&`; the row; the open borrow; obs; auth; the locals]
           calls_at ! fm (Next 𝓛 mem run) known (to-next e) (and_then ! (load ! (from ! (stop !)) (look ! 24 refl)) (and_then ! (load ! (from ! (stop !)) (look ! 22 refl)) (and_then ! (load ! (from ! (stop !)) (look ! 20 refl)) (and_then ! (load ! (from ! (stop !)) (look ! 14 refl)) (no_more !))))) (λ w.
           use1 𝓛 (later (some (λ (r : Cursor). (Toks ⊛ ‵ ((K.the_row).own_val r (w ∷ []))) ⊛ raw (ensured 𝓛 next.ended (next.clauses 𝓛 mem run) (κ₁, (κ₂, (κ₃, tt))) (x₁, (x₂, (x₃, (e, tt)))) tt r)))) (id⊢ 𝓤 _) $ await ! tt $ pick ! (λ r.
@@ -327,3 +327,4 @@ fill_spec 𝓤 𝓛 𝓜 𝓡 =
     (tables 𝓤 𝓛.H 𝓜 𝓡 code.env).C (tables 𝓤 𝓛.H 𝓜 𝓡 code.env).Λ #forest·fill code.function (code.unfolded 𝓤 𝓛.H 𝓜 𝓡)
     (fill_meets 𝓛 𝓜.mem 𝓡.run (tables_of 𝓤 𝓛.H 𝓜 (tables 𝓤 𝓛.H 𝓜 𝓡 code.env))
     (cited 𝓤 𝓛.H (Next 𝓛 𝓜.mem 𝓡.run) 𝓜 𝓡 code.env #forest·next next-def.routine code.calls-forest::next (next-thm.met 𝓤 𝓛 𝓜 𝓡)))
+

@@ -141,7 +141,7 @@ module _ {M : Type 1} {𝓤 : Ura M} (𝓛 : Logic 𝓤) (mem : Memory → SProp
 
   goes-prepare : (ν : ℕ) (δ : GName) → length rs < 2 ^ 64
       → ent 𝓤 (sep 𝓤 (sep 𝓤 (A.lft κ₀ q₀) (sep 𝓤 (A.lft κ₁ q₁) (sep 𝓤 (A.lft (ν ∷ []) full_share) (sep 𝓤 (A.lft κ₃ q₃) (sem 𝓛 ftrue))))) (sep 𝓤 (sem 𝓛 G) (sep 𝓤 (sem 𝓛 S) (sep 𝓤 (sem 𝓛 ((MutSlice (named 2) (ν ∷ []) u64).own_val (x δ us) (uv ∷ []))) (sem 𝓛 ((MutSlice (named 3) κ₃ u16).own_val dx (dv ∷ [])))))))
-      ((Prepare 𝓛 mem run).pre (to-prepare ν δ))
+      ((Prepare 𝓛 mem run).requires (to-prepare ν δ))
   goes-prepare ν δ fits =
       qed 𝓛 ((‵ (flft κ₀ q₀) ⊛ ‵ (flft κ₁ q₁) ⊛ ‵ (flft (ν ∷ []) full_share) ⊛ ‵ (flft κ₃ q₃) ⊛ ‵ ftrue) ∷ (‵ G ⊛ ‵ S ⊛ ‵ ((MutSlice (named 2) (ν ∷ []) u64).own_val (x δ us) (uv ∷ [])) ⊛ ‵ ((MutSlice (named 3) κ₃ u16).own_val dx (dv ∷ []))) ∷ []) ∵
       suffices ! _ (∗emp 𝓤 _) $ frame ! $ split ! $ move ! (1 ∷ []) $ split ! $ move ! (1 ∷ []) $ split ! $ nothing ! $ owned ! usize (Is usize) (uint_Makes 𝓛 w64) (length rs) _ (refl, fits) $ fjoin ! $ move ! (2 ∷ 0 ∷ []) $ fjoin ! $ move ! (1 ∷ 0 ∷ []) $ fjoin ! $ move ! (1 ∷ 0 ∷ []) $ fjoin ! $ move ! (1 ∷ 0 ∷ []) $ fjoin ! $ done !
@@ -155,7 +155,7 @@ module _ {M : Type 1} {𝓤 : Ura M} (𝓛 : Logic 𝓤) (mem : Memory → SProp
 
   goes-fill : (p : Plan) (μ : ℕ) (ε : GName) (l : List ℕ) → Is P.the_row p (plan-vals p) → (p.n ≤ length rs) × (0 < p.n → Writes gx.now sx.now l p.first p.n)
       → ent 𝓤 (sep 𝓤 (sep 𝓤 (A.lft κ₄ q₄) (sep 𝓤 (A.lft κ₀ q₀) (sep 𝓤 (A.lft κ₁ q₁) (sep 𝓤 (A.lft (μ ∷ []) full_share) (sem 𝓛 ftrue))))) (sep 𝓤 (sem 𝓛 ((MutSlice (named 4) κ₄ R).own_val rx (rv ∷ []))) (sep 𝓤 (sem 𝓛 G) (sep 𝓤 (sem 𝓛 S) (sem 𝓛 ((ShrSlice (named 0) (μ ∷ []) u64).own_val (x ε l) (uv ∷ [])))))))
-      ((Fill 𝓛 mem run).pre (to_fill p μ ε l))
+      ((Fill 𝓛 mem run).requires (to_fill p μ ε l))
   goes-fill p μ ε l is asked =
       let fields = LL.owed P.the_type P'.the_laws p _ is in
       qed 𝓛 ((‵ (flft κ₄ q₄) ⊛ ‵ (flft κ₀ q₀) ⊛ ‵ (flft κ₁ q₁) ⊛ ‵ (flft (μ ∷ []) full_share) ⊛ ‵ ftrue) ∷ (‵ ((MutSlice (named 4) κ₄ R).own_val rx (rv ∷ [])) ⊛ ‵ G ⊛ ‵ S ⊛ ‵ ((ShrSlice (named 0) (μ ∷ []) u64).own_val (x ε l) (uv ∷ []))) ∷ []) ∵
@@ -191,7 +191,7 @@ module _ {M : Type 1} {𝓤 : Ura M} (𝓛 : Logic 𝓤) (mem : Memory → SProp
         use1 𝓛 (‵ S ⊛ ‵ S) ((shr_slice_copy 𝓛 (named 1) κ₁ u8).twice sx (lv ∷ [])) $ split ! $
         -- `prepare`: the words are lent again, for a lifetime ν of the call
         lft_new ! tt (λ ν. move ! (16 ∷ 10 ∷ []) $ use2 𝓛 (later (some (λ (δ : GName). ‵ ((MutSlice (named 2) (ν ∷ []) u64).own_val (x δ us) (uv ∷ [])) ⊛ ‵ (LentAgain u64 κ₂ (ν ∷ []) q₂ γ b o δ us)))) (lends_again u64 κ₂ (ν ∷ []) q₂ γ b o 𝓛 (named 2) (named 2) us) $ await ! tt $ pick ! (λ δ. split ! $
-        nothing ! $ move ! (12 ∷ 0 ∷ []) $ join ! $ move ! (3 ∷ 0 ∷ []) $ join ! $ move ! (11 ∷ 0 ∷ []) $ join ! $ move ! (11 ∷ 0 ∷ []) $ join ! $ move ! (1 ∷ 13 ∷ []) $ join ! $ move ! (5 ∷ 0 ∷ []) $ join ! $ move ! (7 ∷ 0 ∷ []) $ join ! $ move ! (1 ∷ 0 ∷ []) $ use2 𝓛 (raw ((Prepare 𝓛 mem run).pre (to-prepare ν δ))) (goes-prepare ν δ r-room.0) $
+        nothing ! $ move ! (12 ∷ 0 ∷ []) $ join ! $ move ! (3 ∷ 0 ∷ []) $ join ! $ move ! (11 ∷ 0 ∷ []) $ join ! $ move ! (11 ∷ 0 ∷ []) $ join ! $ move ! (1 ∷ 13 ∷ []) $ join ! $ move ! (5 ∷ 0 ∷ []) $ join ! $ move ! (7 ∷ 0 ∷ []) $ join ! $ move ! (1 ∷ 0 ∷ []) $ use2 𝓛 (raw ((Prepare 𝓛 mem run).requires (to-prepare ν δ))) (goes-prepare ν δ r-room.0) $
         calls_at ! fm (Prepare 𝓛 mem run) known-prepare (to-prepare ν δ) (and_then ! (load ! (from ! (stop !)) (look ! 40 refl)) (and_then ! (load ! (from ! (stop !)) (look ! 38 refl)) (and_then ! (load ! (from ! (stop !)) (look ! 26 refl)) (and_then ! (load ! (from ! (stop !)) (look ! 22 refl)) (and_then ! (load ! (from ! (stop !)) (look ! 20 refl)) (no_more !)))))) (λ w.
         use1 𝓛 (later (some (λ (r : Plan). ((‵ (flft κ₀ q₀) ⊛ ‵ (flft κ₁ q₁) ⊛ ‵ (flft (ν ∷ []) full_share) ⊛ ‵ (flft κ₃ q₃) ⊛ ‵ ftrue) ⊛ ‵ ((P.the_row).own_val r (w ∷ []))) ⊛ raw (ensured 𝓛 prepare.ended (prepare.clauses 𝓛 mem run) (κ₀, (κ₁, (ν ∷ [], (κ₃, tt)))) (for-prepare δ) tt r)))) (id⊢ 𝓤 _) $ await ! tt $ pick ! (λ r. split ! $
         move ! (1 ∷ []) $ use1 𝓛 (some (λ (zs : Unit {0} × (Unit {0} × (List ℕ × (List ℕ × (Unit {0} × Unit {0}))))). ‵ (lasts prepare.ended (κ₀, (κ₁, (ν ∷ [], (κ₃, tt)))) (for-prepare δ) zs) ⊛ raw (fact 𝓤 (Planned gx.now sx.now us dx.now (length rs) zs.1.1.0 zs.1.1.1.0 r)))) (id⊢ 𝓤 _) $ pick ! (λ zs. split ! $
@@ -209,7 +209,7 @@ module _ {M : Type 1} {𝓤 : Ura M} (𝓛 : Logic 𝓤) (mem : Memory → SProp
         -- `fill`: the words are lent as `&`, for a lifetime μ of the call; their count is that of the list that they have now
         move ! (0 ∷ []) $ rewrite ! 0 (λ (m : ℕ). ‵ ((MutSlice (named 2) κ₂ u64).own_val (x γ zs.1.1.0) (slice_val (b, o) m ∷ []))) (sym lz) refl $
         lft_new ! tt (λ μ. move ! (1 ∷ 2 ∷ []) $ use2 𝓛 (later (some (λ (ε : GName). ‵ ((ShrSlice (named 0) (μ ∷ []) u64).own_val (x ε zs.1.1.0) (slice_val (b, o) (length zs.1.1.0) ∷ [])) ⊛ ‵ (LentShared u64 κ₂ (μ ∷ []) q₂ γ b o zs.1.1.0)))) (lends_shared u64 κ₂ (μ ∷ []) q₂ γ b o 𝓛 (named 2) (named 0) zs.1.1.0) $ await ! tt $ pick ! (λ ε. split ! $ rewrite ! 0 (λ (m : ℕ). ‵ ((ShrSlice (named 0) (μ ∷ []) u64).own_val (x ε zs.1.1.0) (slice_val (b, o) m ∷ []))) lz refl $
-        nothing ! $ move ! (3 ∷ 0 ∷ []) $ join ! $ move ! (4 ∷ 0 ∷ []) $ join ! $ move ! (4 ∷ 0 ∷ []) $ join ! $ move ! (9 ∷ 0 ∷ []) $ join ! $ move ! (6 ∷ 1 ∷ []) $ join ! $ move ! (7 ∷ 0 ∷ []) $ join ! $ move ! (8 ∷ 0 ∷ []) $ join ! $ move ! (1 ∷ 0 ∷ []) $ use2 𝓛 (raw ((Fill 𝓛 mem run).pre (to_fill r μ ε zs.1.1.0))) (goes-fill r μ ε zs.1.1.0 (good r w ir) (plan_fits gx.now sx.now us dx.now (length rs) zs.1.1.0 zs.1.1.1.0 r planned, plan_writes gx.now sx.now us dx.now (length rs) zs.1.1.0 zs.1.1.1.0 r planned)) $
+        nothing ! $ move ! (3 ∷ 0 ∷ []) $ join ! $ move ! (4 ∷ 0 ∷ []) $ join ! $ move ! (4 ∷ 0 ∷ []) $ join ! $ move ! (9 ∷ 0 ∷ []) $ join ! $ move ! (6 ∷ 1 ∷ []) $ join ! $ move ! (7 ∷ 0 ∷ []) $ join ! $ move ! (8 ∷ 0 ∷ []) $ join ! $ move ! (1 ∷ 0 ∷ []) $ use2 𝓛 (raw ((Fill 𝓛 mem run).requires (to_fill r μ ε zs.1.1.0))) (goes-fill r μ ε zs.1.1.0 (good r w ir) (plan_fits gx.now sx.now us dx.now (length rs) zs.1.1.0 zs.1.1.1.0 r planned, plan_writes gx.now sx.now us dx.now (length rs) zs.1.1.0 zs.1.1.1.0 r planned)) $
         calls_at ! fm (Fill 𝓛 mem run) known-fill (to_fill r μ ε zs.1.1.0) (and_then ! (load ! (from ! (stop !)) (look ! 12 refl)) (and_then ! (load ! (from ! (stop !)) (look ! 38 refl)) (and_then ! (load ! (from ! (stop !)) (look ! 36 refl)) (and_then ! (load ! (from ! (stop !)) (look ! 8 refl)) (and_then ! (load ! (from ! (fld ! refl (stop !))) (look_in ! 28 (sub ! 1 refl (whole !)))) (and_then ! (load ! (from ! (fld ! refl (stop !))) (look_in ! 28 (sub ! 0 refl (whole !)))) (no_more !))))))) (λ w'.
         use1 𝓛 (later (some (λ (r' : Unit {0}). ((‵ (flft κ₄ q₄) ⊛ ‵ (flft κ₀ q₀) ⊛ ‵ (flft κ₁ q₁) ⊛ ‵ (flft (μ ∷ []) full_share) ⊛ ‵ ftrue) ⊛ ‵ (unit.own_val r' (w' ∷ []))) ⊛ raw (ensured 𝓛 fill.ended (fill.clauses 𝓛 mem run) (κ₄, (κ₀, (κ₁, (μ ∷ [], tt)))) (for-fill r ε zs.1.1.0) tt r')))) (id⊢ 𝓤 _) $ await ! tt $ pick ! (λ r'. split ! $
         move ! (1 ∷ []) $ use1 𝓛 (some (λ (ts : List Branch × (Unit {0} × (Unit {0} × (Unit {0} × (Unit {0} × (Unit {0} × Unit {0})))))). ‵ (lasts fill.ended (κ₄, (κ₀, (κ₁, (μ ∷ [], tt)))) (for-fill r ε zs.1.1.0) ts) ⊛ raw (fact 𝓤 (ts.0 ≡ take r.n (written_from gx.now sx.now r.first) ++ without r.n rs)))) (id⊢ 𝓤 _) $ pick ! (λ ts. split ! $
@@ -238,11 +238,12 @@ forest-meets {𝓤 = 𝓤} 𝓛 mem run 𝓣 known-prepare known-fill =
     walk_Meets 𝓛 forest.ended stayed (Goes-none_slice 𝓛 5 (0 ∷ []) tt (plain (λ _. u8)) yes, (Goes-none_slice 𝓛 5 (1 ∷ []) tt (plain (λ _. u8)) yes, (Goes-slice 𝓛 5 2 tt (plain (λ _. u64)), (Goes-gave_slice 𝓛 5 3 tt (plain (λ _. u16)), (Goes-gave_slice 𝓛 5 4 tt (plain (λ _. R)), tt))))) (forest.clauses 𝓛 mem run)
     (WpFn 𝓤 𝓛.H 𝓣.C 𝓣.Λ code.function) (WpFn-mono 𝓤 𝓛.H 𝓛.laws 𝓣 code.function) (forest-walks 𝓛 mem run 𝓣.C 𝓣.Λ (fm_of 𝓤 𝓛.H 𝓛.laws 𝓣) known-prepare known-fill)
 
-pub forest-spec : {M : Type 1} → stated.statement M
+pub forest_spec : {M : Type 1} → stated.statement M
 unfolding code.routine tables_of
-forest-spec 𝓤 𝓛 𝓜 𝓡 =
+forest_spec 𝓤 𝓛 𝓜 𝓡 =
     entered 𝓤 𝓛.H (triple_of 𝓛 forest.signature (forest.spec 𝓛 𝓜.mem 𝓡.run))
     (tables 𝓤 𝓛.H 𝓜 𝓡 code.env).C (tables 𝓤 𝓛.H 𝓜 𝓡 code.env).Λ #forest·forest code.function (code.unfolded 𝓤 𝓛.H 𝓜 𝓡)
     (forest-meets 𝓛 𝓜.mem 𝓡.run (tables_of 𝓤 𝓛.H 𝓜 (tables 𝓤 𝓛.H 𝓜 𝓡 code.env))
     (cited 𝓤 𝓛.H (Prepare 𝓛 𝓜.mem 𝓡.run) 𝓜 𝓡 code.env #forest·prepare prepare-def.routine code.calls-forest::prepare (prepare-thm.met 𝓤 𝓛 𝓜 𝓡))
     (cited 𝓤 𝓛.H (Fill 𝓛 𝓜.mem 𝓡.run) 𝓜 𝓡 code.env #forest·fill fill-def.routine code.calls-forest::fill (fill-thm.met 𝓤 𝓛 𝓜 𝓡)))
+
