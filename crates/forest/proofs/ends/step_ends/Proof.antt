@@ -25,7 +25,7 @@ loop-holds c = (omega arith, λ m z. z, gathered_none _ _ _ (λ m j h l. h) (λ 
 
 symbol-ends-requires : tie.Need-symbol_ends-all-requires invariant-loop-left decreases-loop-left
 symbol-ends-requires c κs =
-    (c.requires.0, c.requires.1, c.requires.2, c.requires.3 _ (c.loop.invariant.1 _ (turn c).here))
+    (c.requires.0, c.requires.1, c.requires.2, c.requires.3 _ (c.loop-left.invariant.1 _ (turn c).here))
 
 loop-again : tie.Need-loop-left-preserved invariant-loop-left decreases-loop-left
 loop-again c =

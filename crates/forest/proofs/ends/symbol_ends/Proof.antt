@@ -38,30 +38,30 @@ returns-2 : tie.Need-returns-then-n-m
 returns-2 c = let e = entry c.before.before in ends_past _ _ _ e.requires.0 _ e.requires.1 _ _ e.requires.2 e.requires.3 (small c.before) c.if-n-m.true
 
 cast-if3 : tie.Need-overflow_cast-line
-cast-if3 c = omega (arith, c.shared_slice_known-5-1.given (entry c.before.before.before).args.m)
+cast-if3 c = omega (arith, c.shared_slice_known-5-1.given c.args.m)
 
 returns-3 : tie.Need-returns-then-line-m
 returns-3 c =
     let inside = c.before.before.before.before in
     let e = entry inside in
-    ends_other _ _ _ e.requires.0 _ e.requires.1 _ _ e.requires.2 e.requires.3 (small inside.before) (λ q. c.if-line-m.true (q ∙ sym (symbol_is inside)))
+    ends_other _ _ _ e.requires.0 _ e.requires.1 _ _ e.requires.2 e.requires.3 (small c.before.before.before) (λ q. c.if-line-m.true (q ∙ sym (symbol_is inside)))
 
 insert-requires : tie.Need-insert-requires
-insert-requires c κs = let inside = c.before.before.before.before in let e = entry inside in omega (arith, e.requires.3, e.requires.0.is_line.short, c.if-n-m.false)
+insert-requires c κs = let e = c in omega (arith, e.requires.3, e.requires.0.is_line.short, c.if-n-m.false)
 
 returns-4 : tie.Need-returns
 returns-4 c =
     let inside = c.before.before.before.before.before in
     let e = entry inside in
-    ends_class _ _ _ e.requires.0 _ e.requires.1 _ _ e.requires.2 e.requires.3 (small inside.before) c.if-n-m.false (c.if-line-m.false ∙ symbol_is inside) _ c.insert.ensures
+    ends_class _ _ _ e.requires.0 _ e.requires.1 _ _ e.requires.2 e.requires.3 (small c.before.before.before.before) c.if-n-m.false (c.if-line-m.false ∙ symbol_is inside) _ c.insert.ensures
 
 pub symbol_ends_spec : {M : Type 1} → statement M
 symbol_ends_spec =
     tie.close
     (tie.spec
     (λ c κs. c.requires.1.1.found.stands)
-    (λ c. rw c.rule_symbols-symbols.ensures (entry c).requires.2)
-    (λ c. omega (arith, c.shared_slice_known-4-1.given (entry c).args.d))
+    (λ c. rw c.rule_symbols-symbols.ensures c.requires.2)
+    (λ c. omega (arith, c.shared_slice_known-4-1.given c.args.d))
     (λ c. search rules) (λ c. omega (arith, few c)) (λ c. omega (arith, few c)) (λ c. omega (arith, few c))
     shared-slice-read-result
     returns
