@@ -19,8 +19,8 @@ passes : (c : tie.In-Accepted) → let a = (origin c.before).args in Passes a.g.
 passes c = checked_accepted _ _ _ _ _ _ (sym c.checked.ensures ∙ c.in-Accepted.is)
 
 -- the memory is filled, from where the records are to be counted
-abbrev filled : tie.After-count-records-arg → tie.After-fill
-filled c = c.before.before.before.before.before
+abbrev filled : tie.After-slice_known-4-1 → tie.After-fill
+filled c = c.before.before.before.before
 
 -- the checks have passed, from where the memory is filled; and the room then lent
 abbrev asked : tie.After-fill → tie.In-Accepted
@@ -49,24 +49,20 @@ returns-2 c =
 
 seek-record-requires : tie.Need-seek_record-requires
 seek-record-requires c κs =
-    let f = filled c.before.before.before in
+    let f = filled c.before.before in
     let p = passes (asked f) in
     let work = f.fill.ensures.work in
     (charted _ _ _ _ (room f) _ p _ _ work, omega arith, first_stands _ _ _ _ (room f) _ p _ _ work, omega arith, omega arith)
 
 returns-3 : tie.Need-returns-in-At
 returns-3 c =
-    let k = c.before.before.before in
-    let i = k.before.before in
-    let f = filled i.before.before in
-    plan_found _ _ _ _ (room f) _ (passes (asked f)) _ _ f.fill.ensures.work _ i.count_records-count.ensures _ i.if-room-count.false (rw c.in-At.is at k.seek_record.ensures)
+    let f = filled c.before.before.before.before in
+    plan_found _ _ _ _ (room f) _ (passes (asked f)) _ _ f.fill.ensures.work _ c.count_records-count.ensures _ c.if-room-count.false (rw c.in-At.is at c.seek_record.ensures)
 
 returns-4 : tie.Need-returns-in-Nowhere
 returns-4 c =
-    let k = c.before.before in
-    let i = k.before.before in
-    let f = filled i.before.before in
-    plan_empty _ _ _ _ (room f) _ (passes (asked f)) _ _ f.fill.ensures.work _ i.count_records-count.ensures _ i.if-room-count.false (rw c.in-Nowhere.is at k.seek_record.ensures)
+    let f = filled c.before.before.before.before in
+    plan_empty _ _ _ _ (room f) _ (passes (asked f)) _ _ f.fill.ensures.work _ c.count_records-count.ensures _ c.if-room-count.false (rw c.in-Nowhere.is at c.seek_record.ensures)
 
 pub prepare_spec : {M : Type 1} → statement M
 prepare_spec =
