@@ -1,5 +1,5 @@
 -- `forest::fill`: each turn lays one more record, and `next` finds the next one.
-use Rattle.std.proofs.Common.{◌≡◌, ◌+◌, ◌≤◌, ℕ, List, arith, add-one, refl, ◌∙◌, slice_set, get_or}
+use Rattle.std.proofs.Common.{◌≡◌, ◌+◌, ℕ, List, arith, add-one, refl, ◌∙◌, slice_set, get_or}
 use Rattle.forest.specs.declared.Branch.{Branch}
 use Rattle.forest.specs.inner.Writing.{written_from}
 use Rattle.forest.proofs.WriteLaws.{laid, laid_is, enough, reached_first, reached_record, reached_next}

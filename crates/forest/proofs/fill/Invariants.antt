@@ -1,5 +1,5 @@
 -- The first i records are written, and the cursor is at the next one, if that is to be written.
-use Rattle.std.proofs.Common.{◌-◌, ◌≡◌, ◌≤◌, length}
+use Rattle.std.proofs.Common.{◌-◌, ◌≡◌, ◌≤◌}
 use Rattle.forest.proofs.WriteLaws.{laid, Reached}
 use Rattle.forest.specs.inner.Writing.{written_from}
 use Rattle.forest.proofs.fill.Given as goal

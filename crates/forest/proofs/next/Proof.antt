@@ -1,5 +1,5 @@
 -- `forest::next` meets its contract: a later end, a later middle, or a record from a later start on.
-use Prim.Native.Nat.{ℕ, ◌-◌, ◌≤◌, ◌<◌}
+use Prim.Native.Nat.{ℕ, ◌≤◌, ◌<◌}
 use mathlib.Core.List.{List}
 use native.Mathlib.Omega.{arith}
 use lib.ListN.{length}
@@ -88,4 +88,3 @@ next_spec =
     (λ c. search rules) (λ c. search rules)
     returns-3
     returns-4)
-

@@ -80,4 +80,3 @@ prepare_spec =
     returns-3
     (λ c. search rules) (λ c. search rules)
     returns-4)
-

@@ -63,4 +63,3 @@ count_place_spec =
     (λ c. search rules) (λ c. search rules)
     loop-again
     returns)
-

@@ -93,4 +93,3 @@ count_records_spec =
     (λ c κs. (here c.before).found.stands) (λ c. search rules) (λ c. search rules)
     loop-again
     returns)
-

@@ -66,4 +66,3 @@ count_rule_spec =
     (λ c. search rules) (λ c. search rules)
     loop-again
     returns)
-

@@ -116,4 +116,3 @@ count_start_spec =
     (λ c. (turn c.before.before).less)
     loop-again
     returns)
-

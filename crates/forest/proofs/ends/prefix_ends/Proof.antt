@@ -63,4 +63,3 @@ prefix_ends_spec =
     (λ c. search rules) (λ c. search rules)
     loop-again
     returns-2)
-

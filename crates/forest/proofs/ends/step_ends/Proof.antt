@@ -52,4 +52,3 @@ step_ends_spec =
     (λ c. (turn c.before).less)
     loop-again
     returns)
-

@@ -72,4 +72,3 @@ symbol_ends_spec =
     (λ c. search rules)
     insert-requires
     returns-4)
-

@@ -103,4 +103,3 @@ seek_middle_spec =
     (λ c. (turn c.before.before.before).less)
     loop-again
     returns-3)
-

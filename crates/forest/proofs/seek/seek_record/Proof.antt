@@ -116,4 +116,3 @@ seek_record_spec =
     loop-less-3
     loop-again-3
     returns-2)
-

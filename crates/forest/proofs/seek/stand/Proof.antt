@@ -33,4 +33,3 @@ stand_spec =
     (λ c. search rules) (λ c. search rules) (λ c. search rules)
     (λ c. (turn c).some)
     returns)
-
