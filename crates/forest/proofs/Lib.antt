@@ -7,8 +7,6 @@ pub mod RuleLaws
 pub mod SearchLaws
 pub mod NextLaws
 pub mod PlanLaws
-pub mod Again
-pub mod Shared
 pub mod WriteLaws
 pub mod OutcomeLaws
 pub mod Unique

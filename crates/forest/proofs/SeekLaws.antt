@@ -1,5 +1,5 @@
 -- The records from some place on: where there are none, and where the first one stands.
-use Prim.Native.Nat.{ℕ, suc, ◌-◌, ◌≤◌, ◌<◌, suc-le-suc}
+use Prim.Native.Nat.{ℕ, suc, ◌≤◌, ◌<◌, suc-le-suc}
 use mathlib.Core.Path.{◌≡◌, refl, sym, ap, ap₂, ◌∙◌}
 use mathlib.Core.Bool.{Bool, true, false, cond}
 use mathlib.Core.List.{List, [], ◌∷◌, ◌++◌, append_assoc}
@@ -12,7 +12,7 @@ use Rattle.derivation.specs.computed.Facts.{facts}
 use Rattle.derivation.specs.Branch.{BranchValue, IsBranch}
 use Rattle.derivation.specs.computed.Forest.{is_branch, passing, forest}
 use Rattle.derivation.proofs.Forest.{is_branch_iff}
-use Rattle.forest.specs.inner.Rest.{branch_at, later, ends_from, middles_from, starts_from, places_from, rules_from, from}
+use Rattle.forest.specs.inner.Rest.{branch_at, ends_from, middles_from, starts_from, places_from, rules_from, from}
 use Rattle.forest.proofs.ListLaws.{gathered_later, later_step, later_none, later_empty, later_at}
 
 -- what is kept of a that does not pass, and of one that does

@@ -1,5 +1,6 @@
 // The question Forest.
 #![tactic(auto)]
+
 ghost use Rattle.std.specs.Prelude.{◌≡◌, ◌++◌, ◌≤◌, ◌<◌, length, take, drop};
 ghost use Rattle.forest.specs.inner.Charted.{Charted};
 ghost use Rattle.forest.specs.inner.Cursor.{Stood, Follows};

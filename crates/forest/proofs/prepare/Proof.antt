@@ -15,67 +15,63 @@ use Rattle.forest.proofs.prepare.Tie as tie
 abbrev origin : tie.After-checked → tie.Start
 origin c = c.before.before.before.before.before
 
-passes : (c : tie.After-s) → let a = (origin c.before.before).args in Passes a.g.now a.line.now Nothing (length a.words.now) (length a.depths.now) c.s.given.0.0
-passes c = checked_accepted _ _ _ _ _ _ (sym c.before.before.checked.ensures ∙ c.s.given.1)
+passes : (c : tie.In-Accepted) → let a = (origin c.before).args in Passes a.g.now a.line.now Nothing (length a.words.now) (length a.depths.now) c.in-Accepted.s
+passes c = checked_accepted _ _ _ _ _ _ (sym c.checked.ensures ∙ c.in-Accepted.is)
 
 -- the memory is filled, from where the records are to be counted
-abbrev filled : tie.After-count-records-arg → tie.After-fill
-filled c = c.before.before.before.before.before
+abbrev filled : tie.After-slice_known-4-1 → tie.After-fill
+filled c = c.before.before.before.before
 
 -- the checks have passed, from where the memory is filled; and the room then lent
-abbrev asked : tie.After-fill → tie.After-s
-asked c = c.before.before.before.before
+abbrev asked : tie.After-fill → tie.In-Accepted
+asked c = c.before.before.before
 
 abbrev room : tie.After-fill → ℕ
-room c = (origin (asked c).before.before).args.room
+room c = (origin (asked c).before).args.room
 
-returns : tie.Need-returns
+returns : tie.Need-returns-in-Refused
 returns c =
-    let checks = c.before.before.before in
+    let checks = c.before in
     let a = (origin checks).args in
-    plan_turned _ _ _ _ _ _ _ (checked_refused a.g.now a.line.now Nothing a.words.now a.depths.now Passed Passed _ (sym checks.checked.ensures ∙ c.before.refusal.given.1))
+    plan_turned _ _ _ _ _ _ _ (checked_refused a.g.now a.line.now Nothing a.words.now a.depths.now Passed Passed _ (sym c.checked.ensures ∙ c.in-Refused.is))
 
-count-records-requires : tie.Need-count-records-requires
+count-records-requires : tie.Need-count_records-count-requires
 count-records-requires c κs =
     let f = filled c in
     let p = passes (asked f) in
     let work = f.fill.ensures.work in
     (charted _ _ _ _ (room f) _ p _ _ work, sections_are _ _ _ _ (room f) _ p _ _ work)
 
-returns-2 : tie.Need-returns-2
+returns-2 : tie.Need-returns-then-room-count
 returns-2 c =
     let f = filled c.before.before in
-    plan_refused _ _ _ _ (room f) _ (passes (asked f)) _ _ f.fill.ensures.work _ c.before.count-records.ensures _ c.if1.true
+    plan_refused _ _ _ _ (room f) _ (passes (asked f)) _ _ f.fill.ensures.work _ c.count_records-count.ensures _ c.if-room-count.true
 
-seek-record-requires : tie.Need-seek-record-requires
+seek-record-requires : tie.Need-seek_record-requires
 seek-record-requires c κs =
-    let f = filled c.before.before.before in
+    let f = filled c.before.before in
     let p = passes (asked f) in
     let work = f.fill.ensures.work in
     (charted _ _ _ _ (room f) _ p _ _ work, omega arith, first_stands _ _ _ _ (room f) _ p _ _ work, omega arith, omega arith)
 
-returns-3 : tie.Need-returns-3
+returns-3 : tie.Need-returns-in-At
 returns-3 c =
-    let k = c.before.before.before in
-    let i = k.before.before in
-    let f = filled i.before.before in
-    plan_found _ _ _ _ (room f) _ (passes (asked f)) _ _ f.fill.ensures.work _ i.before.count-records.ensures _ i.if1.false (rw c.before.first.given.1 at k.seek-record.ensures)
+    let f = filled c.before.before.before.before in
+    plan_found _ _ _ _ (room f) _ (passes (asked f)) _ _ f.fill.ensures.work _ c.count_records-count.ensures _ c.if-room-count.false (rw c.in-At.is at c.seek_record.ensures)
 
-returns-4 : tie.Need-returns-4
+returns-4 : tie.Need-returns-in-Nowhere
 returns-4 c =
-    let k = c.before.before in
-    let i = k.before.before in
-    let f = filled i.before.before in
-    plan_empty _ _ _ _ (room f) _ (passes (asked f)) _ _ f.fill.ensures.work _ i.before.count-records.ensures _ i.if1.false (rw c.enum_told.given.1 at k.seek-record.ensures)
+    let f = filled c.before.before.before.before in
+    plan_empty _ _ _ _ (room f) _ (passes (asked f)) _ _ f.fill.ensures.work _ c.count_records-count.ensures _ c.if-room-count.false (rw c.in-Nowhere.is at c.seek_record.ensures)
 
-pub prepare-spec : {M : Type 1} → statement M
-prepare-spec =
+pub prepare_spec : {M : Type 1} → statement M
+prepare_spec =
     tie.close
     (tie.spec
     (λ c κs. search rules) (λ c. search rules)
     returns
     (λ c. search rules)
-    (λ c κs. fillable (passes c.before.before.before))
+    (λ c κs. fillable (passes c.before.before))
     count-records-requires
     (λ c. search rules) (λ c. search rules)
     returns-2

@@ -13,49 +13,49 @@ use Rattle.forest.proofs.CountLaws.{place_le}
 use Rattle.forest.proofs.count.count_place.Statement.{statement}
 use Rattle.forest.proofs.count.count_place.Tie as tie
 
-abbrev invariant-loop : tie.invariant-loop
-invariant-loop g at d line words width records₀ start₀ records start = (start ≤ width) × (records ≡ total (start_count (grammar_given g) line (standing g at).right d) start)
+abbrev invariant-loop-start : tie.invariant-loop-start
+invariant-loop-start g at d line words width records₀ start₀ records start = (start ≤ width) × (records ≡ total (start_count (grammar_given g) line (standing g at).right d) start)
 
-abbrev decreases-loop : tie.decreases-loop
-decreases-loop g at d line words width records₀ start₀ records start = width - start
+abbrev decreases-loop-start : tie.decreases-loop-start
+decreases-loop-start g at d line words width records₀ start₀ records start = width - start
 
 -- the function's entry, from the loop
-abbrev entry : tie.At-loop invariant-loop decreases-loop → tie.Start invariant-loop decreases-loop
+abbrev entry : tie.At-loop-start invariant-loop-start decreases-loop-start → tie.Start invariant-loop-start decreases-loop-start
 entry c = c.before.before.before.before
 
-loop-holds : tie.Need-loop-init invariant-loop decreases-loop
+loop-holds : tie.Need-loop-start-init invariant-loop-start decreases-loop-start
 loop-holds c = (search rules, sym (total_none _))
 
-add-records : tie.Need-overflow-add-records invariant-loop decreases-loop
+add-records : tie.Need-overflow_add-records invariant-loop-start decreases-loop-start
 add-records c =
     let turn = c.before.before in
     let e = entry turn in
     let a = e.args in
-    let l = turn.loop in
-    let few = place_le (grammar_given a.g.now) a.line.now e.pre.0.is_line.short (standing a.g.now a.at).right a.d in
+    let l = c.loop-start in
+    let few = place_le (grammar_given a.g.now) a.line.now e.requires.0.is_line.short (standing a.g.now a.at).right a.d in
     let more = total_next (start_count (grammar_given a.g.now) a.line.now (standing a.g.now a.at).right a.d) l.start in
-    omega (arith, c.count-start.ensures, l.invariant.1, more, few (l.start + 1) (omega (arith, c.before.loop-test.true)))
+    omega (arith, c.count_start-records.ensures, l.invariant.1, more, few (l.start + 1) (omega (arith, c.loop-start-test.true)))
 
-loop-again : tie.Need-loop-preserved invariant-loop decreases-loop
+loop-again : tie.Need-loop-start-preserved invariant-loop-start decreases-loop-start
 loop-again c =
     let turn = c.before.before in
     let a = (entry turn).args in
-    let l = turn.loop in
+    let l = c.loop-start in
     let more = total_next (start_count (grammar_given a.g.now) a.line.now (standing a.g.now a.at).right a.d) l.start in
-    (search rules, omega (arith, l.invariant.1, c.count-start.ensures, more))
+    (search rules, omega (arith, l.invariant.1, c.count_start-records.ensures, more))
 
-returns : tie.Need-returns invariant-loop decreases-loop
+returns : tie.Need-returns invariant-loop-start decreases-loop-start
 returns c =
     let turn = c.before in
-    let same : turn.loop.start ≡ suc (length (entry turn).args.line.now) = omega (arith, turn.loop.invariant.0, c.loop-test.false) in
-    rw same at turn.loop.invariant.1
+    let same : c.loop-start.start ≡ suc (length (entry turn).args.line.now) = omega (arith, c.loop-start.invariant.0, c.loop-start-test.false) in
+    rw same at c.loop-start.invariant.1
 
-pub count-place-spec : {M : Type 1} → statement M
-count-place-spec =
+pub count_place_spec : {M : Type 1} → statement M
+count_place_spec =
     tie.close
     (tie.spec
-    invariant-loop
-    decreases-loop
+    invariant-loop-start
+    decreases-loop-start
     (λ c. search rules)
     loop-holds
     (λ c κs. search rules)

@@ -23,21 +23,21 @@ use Rattle.forest.proofs.count.count_start.Tie as tie
 abbrev counts : List ℕ → ℕ → ℕ → List ℕ → ℕ → ℕ → ℕ
 counts g at d line start = middle_count (grammar_given g) line (standing g at).right d start
 
-abbrev invariant-loop : tie.invariant-loop
-invariant-loop g at d line words start left₀ records₀ left records =
+abbrev invariant-loop-left : tie.invariant-loop-left
+invariant-loop-left g at d line words start left₀ records₀ left records =
     (left ≤ left₀) × ((m : ℕ) → Member left m → Member left₀ m)
     × (records + total (chosen left (counts g at d line start)) (suc (length line)) ≡ start_count (grammar_given g) line (standing g at).right d start)
 
-abbrev decreases-loop : tie.decreases-loop
-decreases-loop g at d line words start left₀ records₀ left records = left
+abbrev decreases-loop-left : tie.decreases-loop-left
+decreases-loop-left g at d line words start left₀ records₀ left records = left
 
 -- the function's entry, and the middles
-abbrev entry : tie.At-loop invariant-loop decreases-loop → tie.Start invariant-loop decreases-loop
+abbrev entry : tie.At-loop-left invariant-loop-left decreases-loop-left → tie.Start invariant-loop-left decreases-loop-left
 entry c = c.before.before.before.before.before
 
 -- the middle that a turn takes: it is inside the line
-module _ (c : tie.After-first invariant-loop decreases-loop) where
-  abbrev start : tie.Start invariant-loop decreases-loop
+module _ (c : tie.After-first-m invariant-loop-left decreases-loop-left) where
+  abbrev start : tie.Start invariant-loop-left decreases-loop-left
   start = entry c.before.before
 
   abbrev G : Grammar
@@ -46,67 +46,66 @@ module _ (c : tie.After-first invariant-loop decreases-loop) where
   abbrev symbols : List ℕ
   symbols = (standing start.args.g.now start.args.at).right
 
-  turn : Taken c.before.before.loop.left c.first.result
-  turn = taken _ _ c.first.ensures (omega (arith, c.before.before.loop.invariant.0)) c.before.loop-test.true
+  turn : Taken c.loop-left.left c.first-m.result
+  turn = taken _ _ c.first-m.ensures (omega (arith, c.loop-left.invariant.0)) c.loop-left-test.true
 
-  middle : Member c.before.before.before.prefix-ends.result c.first.result
-  middle = c.before.before.loop.invariant.1 _ turn.here
+  middle : Member c.prefix_ends-left.result c.first-m.result
+  middle = c.loop-left.invariant.1 _ turn.here
 
-  short : c.first.result ≤ length start.args.line.now
-  short = prefix_inside _ _ _ _ start.args.d _ c.before.before.before.prefix-ends.ensures _ middle
+  short : c.first-m.result ≤ length start.args.line.now
+  short = prefix_inside _ _ _ _ start.args.d _ c.prefix_ends-left.ensures _ middle
 
   -- the records of this middle apart, and few in all
   abbrev counted : ℕ → ℕ
   counted = middle_count G start.args.line.now symbols start.args.d start.args.start
 
-  less : let left = c.before.before.loop.left in let n = suc (length start.args.line.now) in total (chosen left counted) n ≡ counted c.first.result + total (chosen (bit_and left (left - 1)) counted) n
+  less : let left = c.loop-left.left in let n = suc (length start.args.line.now) in total (chosen left counted) n ≡ counted c.first-m.result + total (chosen (bit_and left (left - 1)) counted) n
   less = chosen_less counted _ _ _ turn (omega (arith, short))
 
   few : start_count G start.args.line.now symbols start.args.d start.args.start ≤ 4096
-  few = start_le G start.args.line.now start.pre.0.is_line.short symbols start.args.d start.args.start _ (omega arith)
+  few = start_le G start.args.line.now start.requires.0.is_line.short symbols start.args.d start.args.start _ (omega arith)
 
-prefix-ends-requires : tie.Need-prefix-ends-requires invariant-loop decreases-loop
-prefix-ends-requires c κs = let e = c.before.before.before in (e.requires.0, e.requires.1, omega (arith, e.requires.2), e.requires.3)
+prefix-ends-requires : tie.Need-prefix_ends-left-requires invariant-loop-left decreases-loop-left
+prefix-ends-requires c κs = (c.requires.0, c.requires.1, omega (arith, c.requires.2), c.requires.3)
 
-loop-holds : tie.Need-loop-init invariant-loop decreases-loop
+loop-holds : tie.Need-loop-left-init invariant-loop-left decreases-loop-left
 loop-holds c =
-    let e = c.before.before.before.before in
-    let whole = chosen_whole (counts e.args.g.now e.args.at e.args.d e.args.line.now e.args.start) c.prefix-ends.result (suc (length e.args.line.now))
-    (λ m n. middle_none _ _ e.requires.0.is_line.short _ e.args.d (proper _ _ _ e.requires.0) e.args.start m (λ z. n ((c.prefix-ends.ensures m).1 z))) in
+    let whole = chosen_whole (counts c.args.g.now c.args.at c.args.d c.args.line.now c.args.start) c.prefix_ends-left.result (suc (length c.args.line.now))
+    (λ m n. middle_none _ _ c.requires.0.is_line.short _ c.args.d (proper _ _ _ c.requires.0) c.args.start m (λ z. n ((c.prefix_ends-left.ensures m).1 z))) in
     (omega arith, λ m z. z, omega (arith, whole))
 
-symbol-ends-requires : tie.Need-symbol-ends-requires invariant-loop decreases-loop
-symbol-ends-requires c κs = let e = start c in (e.pre.0, e.pre.1, e.pre.2, short c)
+symbol-ends-requires : tie.Need-symbol_ends-requires invariant-loop-left decreases-loop-left
+symbol-ends-requires c κs = let e = start c in (e.requires.0, e.requires.1, e.requires.2, short c)
 
-add-records : tie.Need-overflow-add-records invariant-loop decreases-loop
+add-records : tie.Need-overflow_add-records invariant-loop-left decreases-loop-left
 add-records c =
     let f = c.before.before in
-    omega (arith, count_le 64 c.before.symbol-ends.result, c.count.ensures, f.before.before.loop.invariant.2, few f)
+    omega (arith, count_le 64 c.symbol_ends.result, c.count.ensures, f.loop-left.invariant.2, few f)
 
-loop-again : tie.Need-loop-preserved invariant-loop decreases-loop
+loop-again : tie.Need-loop-left-preserved invariant-loop-left decreases-loop-left
 loop-again c =
     let f = c.before.before in
-    let l = f.before.before.loop in
+    let l = f.loop-left in
     let e = start f in
     let t = turn f in
-    let some = middle_some (G f) e.args.line.now e.pre.0.is_line.short (symbols f) e.args.d (proper _ _ _ e.pre.0) e.args.start f.first.result c.before.symbol-ends.result ((f.before.before.before.prefix-ends.ensures _).0 (middle f)) c.before.symbol-ends.ensures in (
+    let some = middle_some (G f) e.args.line.now e.requires.0.is_line.short (symbols f) e.args.d (proper _ _ _ e.requires.0) e.args.start f.first-m.result c.symbol_ends.result ((f.prefix_ends-left.ensures _).0 (middle f)) c.symbol_ends.ensures in (
       omega (arith, l.invariant.0, t.less),
       λ m z. l.invariant.1 m ((t.rest m).0 z).0,
       omega (arith, l.invariant.2, less f, some, c.count.ensures),
     )
 
-returns : tie.Need-returns invariant-loop decreases-loop
+returns : tie.Need-returns invariant-loop-left decreases-loop-left
 returns c =
-    let l = c.before.loop in
+    let l = c.loop-left in
     let a = (entry c.before).args in
-    omega (arith, rw c.loop-test.false at l.invariant.2, chosen_none (counts a.g.now a.at a.d a.line.now a.start) (suc (length a.line.now)))
+    omega (arith, rw c.loop-left-test.false at l.invariant.2, chosen_none (counts a.g.now a.at a.d a.line.now a.start) (suc (length a.line.now)))
 
-pub count-start-spec : {M : Type 1} → statement M
-count-start-spec =
+pub count_start_spec : {M : Type 1} → statement M
+count_start_spec =
     tie.close
     (tie.spec
-    invariant-loop
-    decreases-loop
+    invariant-loop-left
+    decreases-loop-left
     prefix-ends-requires
     loop-holds
     (λ c κs. search rules) (λ c. search rules)

@@ -8,54 +8,54 @@ use Rattle.forest.proofs.EndsLaws.{prefix_none, prefix_more, prefix_inside, pref
 use Rattle.forest.proofs.ends.prefix_ends.Statement.{statement}
 use Rattle.forest.proofs.ends.prefix_ends.Tie as tie
 
-abbrev invariant-loop : tie.invariant-loop
-invariant-loop g at d line words start ends₀ k₀ ends k = (k ≤ d) × PrefixEnds g line at k start ends
+abbrev invariant-loop-k : tie.invariant-loop-k
+invariant-loop-k g at d line words start ends₀ k₀ ends k = (k ≤ d) × PrefixEnds g line at k start ends
 
-abbrev decreases-loop : tie.decreases-loop
-decreases-loop g at d line words start ends₀ k₀ ends k = d - k
+abbrev decreases-loop-k : tie.decreases-loop-k
+decreases-loop-k g at d line words start ends₀ k₀ ends k = d - k
 
 -- the function's entry
-abbrev entry : tie.After-insert invariant-loop decreases-loop → tie.Start invariant-loop decreases-loop
+abbrev entry : tie.After-insert-ends invariant-loop-k decreases-loop-k → tie.Start invariant-loop-k decreases-loop-k
 entry c = c.before.before.before.before
 
-insert-requires : tie.Need-insert-requires invariant-loop decreases-loop
-insert-requires c κs = let e = c.before.before.before in omega (arith, e.requires.3, e.requires.0.is_line.short)
+insert-requires : tie.Need-insert-ends-requires invariant-loop-k decreases-loop-k
+insert-requires c κs = omega (arith, c.requires.3, c.requires.0.is_line.short)
 
-loop-holds : tie.Need-loop-init invariant-loop decreases-loop
-loop-holds c = let start = entry c in (search rules, prefix_none _ _ start.args.at _ c.insert.result start.pre.3 c.insert.ensures)
+loop-holds : tie.Need-loop-k-init invariant-loop-k decreases-loop-k
+loop-holds c = let start = entry c in (search rules, prefix_none _ _ start.args.at _ c.insert-ends.result start.requires.3 c.insert-ends.ensures)
 
-step-ends-requires : tie.Need-step-ends-requires invariant-loop decreases-loop
+step-ends-requires : tie.Need-step_ends-ends-requires invariant-loop-k decreases-loop-k
 step-ends-requires c κs =
-    let l = c.before.before in
-    let p = (entry l.before).pre in
-    (p.0, p.1, omega (arith, c.before.loop-test.true, p.2), prefix_inside _ _ _ _ l.loop.k _ l.loop.invariant.1)
-
-loop-again : tie.Need-loop-preserved invariant-loop decreases-loop
-loop-again c =
     let l = c.before.before.before in
-    (search rules, prefix_more _ _ _ _ l.loop.k _ _ (omega (arith, c.before.before.loop-test.true, (entry l.before).pre.2)) l.loop.invariant.1 c.step-ends.ensures)
+    let p = (entry l).requires in
+    (p.0, p.1, omega (arith, c.loop-k-test.true, p.2), prefix_inside _ _ _ _ c.loop-k.k _ c.loop-k.invariant.1)
 
-returns : tie.Need-returns invariant-loop decreases-loop
+loop-again : tie.Need-loop-k-preserved invariant-loop-k decreases-loop-k
+loop-again c =
+    let l = c.before.before.before.before in
+    (search rules, prefix_more _ _ _ _ c.loop-k.k _ _ (omega (arith, c.loop-k-test.true, (entry l).requires.2)) c.loop-k.invariant.1 c.step_ends-ends.ensures)
+
+returns : tie.Need-returns-then-ends-eq0 invariant-loop-k decreases-loop-k
 returns c =
-    let l = c.before.before in
-    let e = entry l.before in
-    let more = e.args.d - l.loop.k in
-    let all : l.loop.k + more ≡ e.args.d = omega (arith, l.loop.invariant.0) in
+    let l = c.before.before.before in
+    let e = entry l in
+    let more = e.args.d - c.loop-k.k in
+    let all : c.loop-k.k + more ≡ e.args.d = omega (arith, c.loop-k.invariant.0) in
     subst (λ (k : ℕ). PrefixEnds e.args.g.now e.args.line.now e.args.at k e.args.start 0) all
-    (prefix_empty e.args.g.now e.args.line.now e.args.at e.args.start l.loop.k more (omega (arith, all, e.pre.2)) (rw c.if1.true at l.loop.invariant.1))
+    (prefix_empty e.args.g.now e.args.line.now e.args.at e.args.start c.loop-k.k more (omega (arith, all, e.requires.2)) (rw c.if-ends-eq0.true at c.loop-k.invariant.1))
 
-returns-2 : tie.Need-returns-2 invariant-loop decreases-loop
+returns-2 : tie.Need-returns invariant-loop-k decreases-loop-k
 returns-2 c =
-    let l = c.before in
-    let same : l.loop.k ≡ (entry l.before).args.d = omega (arith, l.loop.invariant.0, c.loop-test.false) in
-    rw same at l.loop.invariant.1
+    let l = c.before.before in
+    let same : c.loop-k.k ≡ (entry l).args.d = omega (arith, c.loop-k.invariant.0, c.loop-k-test.false) in
+    rw same at c.loop-k.invariant.1
 
-pub prefix-ends-spec : {M : Type 1} → statement M
-prefix-ends-spec =
+pub prefix_ends_spec : {M : Type 1} → statement M
+prefix_ends_spec =
     tie.close
     (tie.spec
-    invariant-loop
-    decreases-loop
+    invariant-loop-k
+    decreases-loop-k
     insert-requires
     loop-holds
     returns

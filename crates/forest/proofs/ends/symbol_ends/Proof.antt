@@ -11,57 +11,57 @@ use Rattle.forest.proofs.ends.symbol_ends.Statement.{statement}
 use Rattle.forest.proofs.ends.symbol_ends.Tie as tie
 
 -- the function's entry, from where the symbol is read
-abbrev entry : tie.After-shared-slice-known4 → tie.Start
+abbrev entry : tie.After-shared_slice_known-4-1 → tie.Start
 entry c = c.before.before.before.before.before
 
 -- the symbol that is read
-symbol_is : (c : tie.After-shared-slice-known4) → let a = (entry c).args in get_or c.before.rule_symbols.result.now a.d 0 ≡ get_or (standing a.g.now a.at).right a.d 0
-symbol_is c = ap (λ (l : List _). get_or l (entry c).args.d 0) c.before.rule_symbols.ensures
+symbol_is : (c : tie.After-shared_slice_known-4-1) → let a = (entry c).args in get_or c.rule_symbols-symbols.result.now a.d 0 ≡ get_or (standing a.g.now a.at).right a.d 0
+symbol_is c = ap (λ (l : List _). get_or l (entry c).args.d 0) c.rule_symbols-symbols.ensures
 
-big : (c : tie.Then1) → let a = (entry c.before).args in 128 ≤ get_or (standing a.g.now a.at).right a.d 0
-big c = omega (arith, c.if1.true, symbol_is c.before)
+big : (c : tie.Then-symbol-ge128) → let a = (entry c.before).args in 128 ≤ get_or (standing a.g.now a.at).right a.d 0
+big c = omega (arith, c.if-symbol-ge128.true, symbol_is c.before)
 
-small : (c : tie.Else1) → let a = (entry c.before).args in get_or (standing a.g.now a.at).right a.d 0 < 128
-small c = omega (arith, c.if1.false, symbol_is c.before)
+small : (c : tie.Else-symbol-ge128) → let a = (entry c.before).args in get_or (standing a.g.now a.at).right a.d 0 < 128
+small c = omega (arith, c.if-symbol-ge128.false, symbol_is c.before)
 
 -- the word that is read is one of the chart's
-few : (c : tie.Then1) → let a = (entry c.before).args in (get_or c.before.before.rule_symbols.result.now a.d 0 - 128) * (length a.line.now + 1) + a.m < 2048
-few c = let e = entry c.before in rw (symbol_is c.before) (in_few _ _ _ e.pre.0 _ e.pre.1 _ _ e.pre.2 e.pre.3 (big c))
+few : (c : tie.Then-symbol-ge128) → let a = (entry c.before).args in (get_or c.rule_symbols-symbols.result.now a.d 0 - 128) * (length a.line.now + 1) + a.m < 2048
+few c = let e = entry c.before in rw (symbol_is c.before) (in_few _ _ _ e.requires.0 _ e.requires.1 _ _ e.requires.2 e.requires.3 (big c))
 
-shared-slice-read-result : tie.Need-shared-slice-read-result
-shared-slice-read-result c = let e = entry c.before.before in rw (symbol_is c.before.before) (in_words _ _ _ e.pre.0 _ e.pre.1 _ _ e.pre.2 e.pre.3 (big c.before))
+shared-slice-read-result : tie.Need-bounds-words-symbol
+shared-slice-read-result c = let e = entry c.before.before in rw (symbol_is c.before.before) (in_words _ _ _ e.requires.0 _ e.requires.1 _ _ e.requires.2 e.requires.3 (big c.before))
 
-returns : tie.Need-returns
-returns c = let e = entry c.before.before in rw (symbol_is c.before.before) (ends_category _ _ _ e.pre.0 _ e.pre.1 _ _ e.pre.2 e.pre.3 (big c.before))
+returns : tie.Need-returns-then-symbol-ge128
+returns c = let e = entry c.before.before in rw (symbol_is c.before.before) (ends_category _ _ _ e.requires.0 _ e.requires.1 _ _ e.requires.2 e.requires.3 (big c.before))
 
-returns-2 : tie.Need-returns-2
-returns-2 c = let e = entry c.before.before in ends_past _ _ _ e.pre.0 _ e.pre.1 _ _ e.pre.2 e.pre.3 (small c.before) c.if2.true
+returns-2 : tie.Need-returns-then-n-m
+returns-2 c = let e = entry c.before.before in ends_past _ _ _ e.requires.0 _ e.requires.1 _ _ e.requires.2 e.requires.3 (small c.before) c.if-n-m.true
 
-cast-if3 : tie.Need-overflow-cast-if3
-cast-if3 c = omega (arith, c.shared-slice-known6.given (entry c.before.before.before).args.m)
+cast-if3 : tie.Need-overflow_cast-line
+cast-if3 c = omega (arith, c.shared_slice_known-5-1.given c.args.m)
 
-returns-3 : tie.Need-returns-3
+returns-3 : tie.Need-returns-then-line-m
 returns-3 c =
-    let inside = c.before.before in
-    let e = entry inside.before.before in
-    ends_other _ _ _ e.pre.0 _ e.pre.1 _ _ e.pre.2 e.pre.3 (small inside.before) (λ q. c.if3.true (q ∙ sym (symbol_is inside.before.before)))
+    let inside = c.before.before.before.before in
+    let e = entry inside in
+    ends_other _ _ _ e.requires.0 _ e.requires.1 _ _ e.requires.2 e.requires.3 (small c.before.before.before) (λ q. c.if-line-m.true (q ∙ sym (symbol_is inside)))
 
 insert-requires : tie.Need-insert-requires
-insert-requires c κs = let inside = c.before.before in let e = entry inside.before.before in omega (arith, e.pre.3, e.pre.0.is_line.short, inside.if2.false)
+insert-requires c κs = let e = c in omega (arith, e.requires.3, e.requires.0.is_line.short, c.if-n-m.false)
 
-returns-4 : tie.Need-returns-4
+returns-4 : tie.Need-returns
 returns-4 c =
-    let inside = c.before.before.before in
-    let e = entry inside.before.before in
-    ends_class _ _ _ e.pre.0 _ e.pre.1 _ _ e.pre.2 e.pre.3 (small inside.before) inside.if2.false (c.before.if3.false ∙ symbol_is inside.before.before) _ c.insert.ensures
+    let inside = c.before.before.before.before.before in
+    let e = entry inside in
+    ends_class _ _ _ e.requires.0 _ e.requires.1 _ _ e.requires.2 e.requires.3 (small c.before.before.before.before) c.if-n-m.false (c.if-line-m.false ∙ symbol_is inside) _ c.insert.ensures
 
-pub symbol-ends-spec : {M : Type 1} → statement M
-symbol-ends-spec =
+pub symbol_ends_spec : {M : Type 1} → statement M
+symbol_ends_spec =
     tie.close
     (tie.spec
-    (λ c κs. c.before.before.before.requires.1.1.found.stands)
-    (λ c. rw c.before.rule_symbols.ensures (entry c).requires.2)
-    (λ c. omega (arith, c.shared-slice-known4.given (entry c).args.d))
+    (λ c κs. c.requires.1.1.found.stands)
+    (λ c. rw c.rule_symbols-symbols.ensures c.requires.2)
+    (λ c. omega (arith, c.shared_slice_known-4-1.given c.args.d))
     (λ c. search rules) (λ c. omega (arith, few c)) (λ c. omega (arith, few c)) (λ c. omega (arith, few c))
     shared-slice-read-result
     returns

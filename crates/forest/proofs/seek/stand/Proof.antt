@@ -9,24 +9,24 @@ use Rattle.forest.proofs.seek.stand.Statement.{statement}
 use Rattle.forest.proofs.seek.stand.Tie as tie
 
 -- there is an end
-turn : (c : tie.After-first) → Taken c.before.args.ends c.first.result
-turn c = taken _ _ c.first.ensures c.before.ranges.ends.fits (λ q. omega (arith, c.before.requires.4))
+turn : (c : tie.After-first-end) → Taken c.args.ends c.first-end.result
+turn c = taken _ _ c.first-end.ensures c.ranges.ends.fits (λ q. omega (arith, c.requires.4))
 
 returns : tie.Need-returns
 returns c =
-    let place = add-one c.before.args.d in
+    let place = add-one c.args.d in
     let t = turn c in
     record {
-      end = c.first.result;
-      left = bit_and c.before.args.ends (c.before.args.ends - 1);
+      end = c.first-end.result;
+      left = bit_and c.args.ends (c.args.ends - 1);
       is = rw place;
-      first = c.first.ensures;
+      first = c.first-end.ensures;
       inside = t.small;
       others = t.rest;
     }
 
-pub stand-spec : {M : Type 1} → statement M
-stand-spec =
+pub stand_spec : {M : Type 1} → statement M
+stand_spec =
     tie.close
     (tie.spec
     (λ c κs. search rules) (λ c. search rules) (λ c. search rules) (λ c. search rules) (λ c. search rules)
