@@ -1,11 +1,11 @@
 -- `tree::division::class_starts` meets its contract. The loop's invariant: of the set, the members that have left are tried.
 use Prim.Native.Nat.{◌-◌}
-use mathlib.Core.Logic.{⊎_elim}
 use native.Mathlib.Omega.{arith}
 use borrow.Author.Rules.{rules}
 use Rattle.positions.proofs.Taking.{Taken, taken}
 use Rattle.tree.proofs.DivisionLaws.{ClassTurn, class_none, class_more, class_skip, class_all}
 use Rattle.tree.proofs.division.class_starts.Statement.{statement}
+use Rattle.tree.proofs.division.class_starts.Lts.{then-start-e+then-line-e, then-start-e+else-line-e, else-start-e}
 use Rattle.tree.proofs.division.class_starts.Tie as tie
 
 abbrev invariant-loop-left : tie.invariant-loop-left
@@ -23,9 +23,7 @@ loop-holds c = class_none _ _ _ _
 
 shared-slice-read-if2 : tie.Need-bounds-line-e invariant-loop-left decreases-loop-left
 shared-slice-read-if2 c =
-    let f = c.before.before in
-    let l = f.before.before in
-    omega (arith, l.before.before.requires.1 _ (l.loop.invariant.part _ (turn f).here), c.if-start-e.true)
+    omega (arith, c.requires.1 _ (c.loop-left.invariant.part _ (turn c.before.before).here), c.if-start-e.true)
 
 cast-if2 : tie.Need-overflow_cast-line invariant-loop-left decreases-loop-left
 cast-if2 c = omega (arith, c.shared_slice_known-then-start-e-1.given (c.first-e.result - 1))
@@ -34,12 +32,11 @@ loop-again : tie.Need-loop-left-preserved invariant-loop-left decreases-loop-lef
 loop-again c =
     let l = c.loop-left in
     let t = turn c.before in
-    ⊎_elim
-    (λ w. rw w.4 (class_more _ _ _ _ _ _ _ t l.invariant _ w.0.taken w.2.taken w.3.ensures))
-    (⊎_elim
-    (λ w. rw w.3 (class_skip _ _ _ _ _ _ _ t l.invariant (λ k q. w.2.left q)))
-    (λ w. rw w.1 (class_skip _ _ _ _ _ _ _ t l.invariant (λ k q. omega (arith, w.0.left)))))
-    c.if-start-e.branch
+    elim c.if-start-e.branch [
+      then-start-e+then-line-e w ↦ rw w.starts-is (class_more _ _ _ _ _ _ _ t l.invariant _ w.if-start-e.true w.if-line-e.true w.insert-starts.ensures)
+    | then-start-e+else-line-e w ↦ rw w.starts-is (class_skip _ _ _ _ _ _ _ t l.invariant (λ k q. w.if-line-e.false q))
+    | else-start-e w ↦ rw w.starts-is (class_skip _ _ _ _ _ _ _ t l.invariant (λ k q. omega (arith, w.if-start-e.false)))
+    ]
 
 returns : tie.Need-returns invariant-loop-left decreases-loop-left
 returns c = class_all _ _ _ _ _ (rw c.loop-left-test.false at c.loop-left.invariant)

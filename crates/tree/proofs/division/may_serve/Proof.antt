@@ -9,15 +9,11 @@ use Rattle.tree.proofs.DivisionLaws.{row_place, serve_other, serve_empty, serve_
 use Rattle.tree.proofs.division.may_serve.Statement.{statement}
 use Rattle.tree.proofs.division.may_serve.Tie as tie
 
--- the function's entry
-abbrev entry : tie.After-rule_left → tie.Start
-entry c = c.before.before.before.before
-
 returns : tie.Need-returns-then-rule_left-category
 returns c = serve_other _ _ _ _ _ _ (λ q. c.if-rule_left-category.true (c.rule_left.ensures ∙ q))
 
 -- the rule is of the category
-left : (c : tie.Else-rule_left-category) → let a = (entry c.before).args in (standing a.g.now a.at).left ≡ a.category
+left : (c : tie.Else-rule_left-category) → let a = c.args in (standing a.g.now a.at).left ≡ a.category
 left c = sym c.rule_left.ensures ∙ c.if-rule_left-category.false
 
 returns-2 : tie.Need-returns-then-symbols-eq0
@@ -29,21 +25,18 @@ some c = let n = c.if-symbols-eq0.false in omega arith
 
 -- the place of its row
 place : (c : tie.Then-symbol-ge128) →
-    let y = c.before.before.before.before.before in
-    let e = (entry y).args in
+    let e = c.args in
     (get_or c.rule_symbols-symbols.result.now 0 0 - 128) * (length e.line.now + 1) + e.start < length e.words.now
 place c =
-    let y = c.before.before.before in
-    let e = entry y in
     let q = c.rule_symbols-symbols.ensures in
-    row_place _ _ _ _ e.pre.2 (rw q (e.pre.3 (rw q at (some c.before)) (rw q at c.if-symbol-ge128.true)))
+    row_place _ _ _ _ c.requires.2 (rw q (c.requires.3 (rw q at (some c.before)) (rw q at c.if-symbol-ge128.true)))
 
 returns-3 : tie.Need-returns-then-symbol-ge128
 returns-3 c =
     let s = c.before.before in
     let q = c.rule_symbols-symbols.ensures in
     let e = s.before.before.before in
-    rw q (serve_row _ _ _ _ _ _ (left e) (rw q at (some s)) (rw q at c.if-symbol-ge128.true) (entry e.before).requires.2)
+    rw q (serve_row _ _ _ _ _ _ (left e) (rw q at (some s)) (rw q at c.if-symbol-ge128.true) c.requires.2)
 
 returns-4 : tie.Need-returns-then-line-start
 returns-4 c =
@@ -53,9 +46,7 @@ returns-4 c =
 
 cast-result : tie.Need-overflow_cast-result
 cast-result c =
-    let s = c.before.before.before in
-    let y = s.before.before in
-    omega (arith, c.shared_slice_known-5-1.given (entry y.before.before).args.start)
+    omega (arith, c.shared_slice_known-5-1.given c.args.start)
 
 returns-5 : tie.Need-returns
 returns-5 c =

@@ -17,50 +17,42 @@ invariant-loop-d symbols line words depths h start end sets₀ d₀ set₀ sets 
 abbrev decreases-loop-d : tie.decreases-loop-d
 decreases-loop-d symbols line words depths h start end sets₀ d₀ set₀ sets d set = d
 
-abbrev asked : tie.After-insert-set invariant-loop-d decreases-loop-d → tie.Start invariant-loop-d decreases-loop-d
-asked c = c.before.before.before.before.before
-
 loop-holds : tie.Need-loop-d-init invariant-loop-d decreases-loop-d
 loop-holds c =
-    let p = (asked c).requires in (
+    let p = c.requires in (
       simp length-set,
-      sym (get_or-set_same (replicate 9 0) (length (asked c).args.symbols.now) c.insert-set.result 0 (omega (arith, p.3))),
+      sym (get_or-set_same (replicate 9 0) (length c.args.symbols.now) c.insert-set.result 0 (omega (arith, p.3))),
       sets_none _ _ _ _ _ _ _ p.3 (replicate 9 0) c.insert-set.result refl (zeros_at 9) p.1 p.2 c.insert-set.ensures,
     )
 
 returns : tie.Need-returns-then-set-eq0 invariant-loop-d decreases-loop-d
 returns c =
-    let l = c.before.before.before in
-    sets_empty _ _ _ _ _ _ _ (asked l).requires.3 _ _ c.loop.invariant.0 c.loop.invariant.2 (sym c.loop.invariant.1 ∙ c.if-set-eq0.true)
+    sets_empty _ _ _ _ _ _ _ c.requires.3 _ _ c.loop-d.invariant.0 c.loop-d.invariant.2 (sym c.loop-d.invariant.1 ∙ c.if-set-eq0.true)
 
 -- symbol d - 1 is one of at most 8
 few : (c : tie.Else-set-eq0 invariant-loop-d decreases-loop-d) →
-    let l = c.before.before.before in
-    (c.loop.d - 1 < length (asked l).args.symbols.now) × (c.loop.d ≤ 8)
-few c = let l = c.before.before in (omega (arith, c.loop-d-test.true, c.loop.invariant.2.low), omega (arith, (asked l).requires.3, c.loop.invariant.2.low))
+    (c.loop-d.d - 1 < length c.args.symbols.now) × (c.loop-d.d ≤ 8)
+few c = (omega (arith, c.loop-d-test.true, c.loop-d.invariant.2.low), omega (arith, c.requires.3, c.loop-d.invariant.2.low))
 
 cast-starts-before : tie.Need-overflow_cast-symbols invariant-loop-d decreases-loop-d
 cast-starts-before c = omega (arith, c.shared_slice_known-in-loop-d-1.given (c.loop-d.d - 1))
 
 starts-before-requires : tie.Need-starts_before-set-requires invariant-loop-d decreases-loop-d
 starts-before-requires c κs =
-    let l = c.before.before.before.before in
-    let p = (asked l).requires in
-    (p.0, p.2, λ e m. c.loop.invariant.2.inside _ e (rw c.loop.invariant.1 at m), p.4 _ (few c.before).0)
+    let p = c.requires in
+    (p.0, p.2, λ e m. c.loop-d.invariant.2.inside _ e (rw c.loop-d.invariant.1 at m), p.4 _ (few c.before).0)
 
 loop-again : tie.Need-loop-d-preserved invariant-loop-d decreases-loop-d
 loop-again c =
-    let i = c.before.before.before.before.before in
     let l = c.loop-d in (
       length-set l.sets _ _ ∙ l.invariant.0,
       sym (get_or-set_same l.sets _ c.starts_before-set.result 0 (omega (arith, l.invariant.0, few c.before.before))),
-      sets_more _ _ _ _ _ _ _ (asked i).requires.3 l.d l.sets l.invariant.0 l.invariant.2 _ c.loop-d-test.true (rw l.invariant.1 at c.starts_before-set.ensures),
+      sets_more _ _ _ _ _ _ _ c.requires.3 l.d l.sets l.invariant.0 l.invariant.2 _ c.loop-d-test.true (rw l.invariant.1 at c.starts_before-set.ensures),
     )
 
 returns-2 : tie.Need-returns invariant-loop-d decreases-loop-d
 returns-2 c =
-    let l = c.before.before in
-    sets_all _ _ _ _ _ _ _ (asked l).requires.3 _ _ c.loop.invariant.0 c.loop.invariant.2 c.loop-d-test.false
+    sets_all _ _ _ _ _ _ _ c.requires.3 _ _ c.loop-d.invariant.0 c.loop-d.invariant.2 c.loop-d-test.false
 
 pub sets_before_spec : {M : Type 1} → statement M
 sets_before_spec =
