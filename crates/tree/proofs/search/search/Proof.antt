@@ -25,41 +25,35 @@ invariant-search g starts line words depths category start end depth h p₀ p = 
 abbrev decreases-search : tie.decreases-search
 decreases-search g starts line words depths category start end depth h p₀ p = length (grammar_given g).rules - p
 
-abbrev asked : tie.At-search invariant-loop-m decreases-loop-m invariant-search decreases-search → tie.Start invariant-loop-m decreases-loop-m invariant-search decreases-search
-asked c = c.before.before.before.before.before
-
 -- rule p is one of the grammar's, and stands where its start says
 module _ (c : tie.At-search invariant-loop-m decreases-loop-m invariant-search decreases-search) where
-  inside : c.search.p < length (grammar_given (asked c).args.g.now).rules
-  inside = rule_inside _ _ _ _ _ _ (asked c).requires.0 _ _ _ _ (asked c).requires.1 _ c.search.invariant
+  inside : c.search.p < length (grammar_given c.args.g.now).rules
+  inside = rule_inside _ _ _ _ _ _ c.requires.0 _ _ _ _ c.requires.1 _ c.search.invariant
 
   few : c.search.p < 128
-  few = omega (arith, inside, (asked c).requires.0.few)
+  few = omega (arith, inside, c.requires.0.few)
 
 may-serve-requires : tie.Need-may_serve-requires invariant-loop-m decreases-loop-m invariant-search decreases-search
 may-serve-requires c κs =
-    let s = asked c.before.before in
-    let k = inside c.before in
+    let s = c.before.before in
+    let k = inside s in
     (s.requires.0.stands _ k, s.requires.0.short, s.requires.1.start, λ l a. (symbols_fit _ _ _ _ _ _ s.requires.0 _ k 0 l a).0)
 
 search-again : tie.Need-search-preserved-then-not-may_serve invariant-loop-m decreases-loop-m invariant-search decreases-search
 search-again c =
     let r = c.before.before.before.before in
-    let s = asked r in
+    let s = r in
     rule_after _ _ _ _ _ _ s.requires.0 _ _ _ _ s.requires.1 _ c.search.invariant _ refl (λ e v. c.may_serve.ensures.fails (not-true _ c.if-not-may_serve.true-raw) e _ s.requires.0.work.rows (λ l. symbols_known _ _ _ _ _ _ s.requires.0 _ (inside r) 0 l) _ v)
 
 sets-before-requires : tie.Need-sets_before-sets-requires invariant-loop-m decreases-loop-m invariant-search decreases-search
 sets-before-requires c κs =
-    let m = c.before.before in
-    let r = m.before.before in
-    let s = asked r in
-    let k = inside r in
+    let s = c.before.before.before.before.before in
+    let k = inside s in
     rw c.rule_symbols-symbols.ensures (s.requires.0.short, node_rises _ _ _ _ _ _ s.requires.0 _ _ _ _ s.requires.1, s.requires.1.end, symbols_few _ _ _ _ _ _ s.requires.0 _ k, symbols_fit _ _ _ _ _ _ s.requires.0 _ k)
 
 loop-holds : tie.Need-loop-m-init invariant-loop-m decreases-loop-m invariant-search decreases-search
 loop-holds c =
-    let m = c.before.before.before.before.before.before in
-    let s = asked m in
+    let s = c.before.before.before.before.before.before in
     turn_begin _ _ s.requires.0.proper _ _ _ _ s.requires.0.short s.requires.1.end
 
 -- symbol d is one of at most 8
@@ -69,7 +63,7 @@ here l = l.before.before.before.before.before.before.before
 fewer : (c : tie.Else-d-symbols invariant-loop-m decreases-loop-m invariant-search decreases-search) → let l = c.before.before in (c.loop-m.d < length c.rule_symbols-symbols.result.now) × (c.loop-m.d < 8)
 fewer c =
     let l = c.before.before in
-    let s = asked (here l) in
+    let s = here l in
     let n = c.if-d-symbols.false in
     let k : c.loop-m.d < length c.rule_symbols-symbols.result.now = omega (arith, c.loop-m.invariant.low) in
     (k, lt_of_lt_of_le k (rw c.rule_symbols-symbols.ensures (symbols_few _ _ _ _ _ _ s.requires.0 _ (inside (here l)))))
@@ -80,7 +74,7 @@ cast-symbol c = omega (arith, c.shared_slice_known-in-loop-m-1.given c.loop-m.d)
 first-end-requires : tie.Need-first_end-m-requires invariant-loop-m decreases-loop-m invariant-search decreases-search
 first-end-requires c κs =
     let l = c.before.before.before in
-    let s = asked (here l) in
+    let s = here l in
     let e = c.rule_symbols-symbols.ensures in
     let m = turn_inside _ _ s.requires.0.proper _ _ _ _ s.requires.0.short s.requires.1.end _ _ _ c.loop-m.invariant s.requires.1.start c.loop-m-test.true in
     (s.requires.0.short, m, λ x y. le_trans (c.sets_before-sets.ensures.inside _ x y) s.requires.1.end, (rw (← e) at (symbols_fit _ _ _ _ _ _ s.requires.0 _ (inside (here l)))) _ (fewer c.before).0)
@@ -89,7 +83,7 @@ loop-again : tie.Need-loop-m-preserved invariant-loop-m decreases-loop-m invaria
 loop-again c =
     let o = c.before.before in
     let l = o.before.before in
-    let s = asked (here l) in
+    let s = here l in
     let e = o.rule_symbols-symbols.ensures in
     let k = fewer o in
     let known = rw (← e) at (symbols_known _ _ _ _ _ _ s.requires.0 _ (inside (here l))) in
@@ -99,14 +93,14 @@ loop-again c =
 search-again-2 : tie.Need-search-preserved invariant-loop-m decreases-loop-m invariant-search decreases-search
 search-again-2 c =
     let l = c.before in
-    let s = asked (here l) in
+    let s = here l in
     rule_after _ _ _ _ _ _ s.requires.0 _ _ _ _ s.requires.1 _ (here l).search.invariant _ c.rule_symbols-symbols.ensures
     (λ a. turn_fails _ _ s.requires.0.proper _ _ _ _ s.requires.0.short s.requires.1.end _ _ _ c.loop-m.invariant c.loop-m-test.false)
 
 returns : tie.Need-returns invariant-loop-m decreases-loop-m invariant-search decreases-search
 returns c =
     let l = c.before.before in
-    let s = asked (here l) in
+    let s = here l in
     let e = c.rule_symbols-symbols.ensures in
     let a = c.may_serve.ensures.passes (not-false _ c.if-not-may_serve.false-raw) in
     let w = turn_whole _ _ s.requires.0.proper _ _ _ _ s.requires.0.short s.requires.1.end _ _ _ c.loop-m.invariant c.if-d-symbols.true c.loop-m-test.true (rw e a.1) in
@@ -122,12 +116,12 @@ search_spec =
     decreases-search
     (λ c. omega (arith, c.requires.1.fact))
     (λ c. omega arith) (λ c. omega (arith, few c))
-    few
+    (λ c. few c.before)
     may-serve-requires
-    (λ c. omega (arith, few c.before.before.before))
-    (λ c. omega (arith, inside c.before.before.before))
+    (λ c. omega (arith, few c.before.before.before.before))
+    (λ c. omega (arith, inside c.before.before.before.before))
     search-again
-    (λ c κs. let r = c.before.before.before.before in (asked r).requires.0.stands _ (inside r))
+    (λ c κs. let r = c.before.before.before.before in r.requires.0.stands _ (inside r))
     sets-before-requires
     loop-holds
     (λ c. (fewer c.before).0)
