@@ -11,12 +11,8 @@ use borrow.Author.Rules.{rules}
 use Rattle.tree.proofs.tree.Statement.{statement}
 use Rattle.tree.proofs.tree.Tie as tie
 
--- the function's entry
-abbrev origin : tie.After-checked → tie.Start
-origin c = c.before.before.before.before.before.before
-
 passes : (c : tie.In-Accepted) →
-    let a = (origin c.before).args in
+    let a = c.args in
     Passes a.g.now a.line.now (Span a.category a.start a.end) (length a.words.now) (length a.depths.now) c.in-Accepted.s
 passes c = checked_accepted _ _ _ _ _ _ (sym c.checked.ensures ∙ c.in-Accepted.is)
 
@@ -25,13 +21,12 @@ abbrev asked : tie.After-fill → tie.In-Accepted
 asked c = c.before.before.before
 
 -- the memory is filled, from where the tree is to be shown
-abbrev filled : tie.After-show-arg3 → tie.After-fill
-filled c = c.before.before.before.before.before.before.before
+abbrev filled : tie.After-show-arg-1 → tie.After-fill
+filled c = c.before.before.before.before.before
 
 returns : tie.Need-returns-in-Refused
 returns c =
-    let checks = c.before in
-    let a = (origin checks).args in
+    let a = c.args in
     let asked = Span a.category a.start a.end in
     let G = grammar_given a.g.now in
     tree_turned _ _ _ _ _ _ _ _ _ (checked_refused a.g.now a.line.now asked a.words.now a.depths.now Passed Passed _ (sym c.checked.ensures ∙ c.in-Refused.is))
