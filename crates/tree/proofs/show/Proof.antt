@@ -17,9 +17,8 @@ returns c = let p = c.requires in show_none _ _ _ _ _ (given_proper _ _ p.0) _ _
 -- the fact as a node
 node : (c : tie.Else-depth-eq0) → let a = c.args in NodeAt (grammar_given a.g.now) a.line.now a.a a.i a.j c.depth_at-depth.result
 node c =
-    let e = c in
-    let p = e.requires in
-    node_at _ _ _ _ _ (given_proper _ _ p.0) e.args.depths.now p.6 (given_categories _ _ p.0 _ p.2) p.3 p.4 _ c.depth_at-depth.ensures c.if-depth-eq0.false
+    let p = c.requires in
+    node_at _ _ _ _ _ (given_proper _ _ p.0) c.args.depths.now p.6 (given_categories _ _ p.0 _ p.2) p.3 p.4 _ c.depth_at-depth.ensures c.if-depth-eq0.false
 
 -- the rules where they stand
 ready : (c : tie.After-rule_starts_of-starts) →
@@ -31,22 +30,21 @@ returns-2 : tie.Need-returns-then-room-count
 returns-2 c =
     let counted = c.before in
     let known = counted.before.before.before in
-    show_small _ _ _ _ _ (given_proper _ _ known.requires.0) _ _ _ (node known) counted.count_nodes-count.ensures c.if-room-count.true
+    show_small _ _ _ _ _ (given_proper _ _ c.requires.0) _ _ _ (node known) counted.count_nodes-count.ensures c.if-room-count.true
 
 write-requires : tie.Need-write-requires
 write-requires c κs =
     let counted = c.before.before.before in
     let rules = counted.before.before in
     let known = rules.before in
-    let e = known in
-    (ready rules, node known, has_room _ _ _ _ _ (given_proper _ _ e.requires.0) e.args.out.now _ _ (node known) counted.count_nodes-count.ensures c.if-room-count.false)
+    (ready rules, node known, has_room _ _ _ _ _ (given_proper _ _ c.requires.0) c.args.out.now _ _ (node known) counted.count_nodes-count.ensures c.if-room-count.false)
 
 returns-3 : tie.Need-returns
 returns-3 c =
     let call = c.before.before.before in
     let counted = call.before.before.before in
     let known = counted.before.before.before in
-    show_all _ _ _ _ _ (given_proper _ _ known.requires.0) _ _ _ (node known) counted.count_nodes-count.ensures _ call.if-room-count.false c.write.ensures.1
+    show_all _ _ _ _ _ (given_proper _ _ c.requires.0) _ _ _ (node known) counted.count_nodes-count.ensures _ call.if-room-count.false c.write.ensures.1
 
 pub show_spec : {M : Type 1} → statement M
 show_spec =
@@ -60,4 +58,3 @@ show_spec =
     write-requires
     (λ c. search rules)
     returns-3)
-

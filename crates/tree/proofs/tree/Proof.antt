@@ -54,4 +54,3 @@ tree_spec =
     show-requires
     (λ c. search rules) (λ c. search rules) (λ c. search rules)
     returns-2)
-

@@ -1,5 +1,5 @@
 -- `tree::counting::count_nodes` meets its contract.
-use Rattle.std.proofs.Common.{rules, arith, ap, ℕ, ◌<◌, ◌+◌, ◌-◌, length, slice_index_or}
+use Rattle.std.proofs.Common.{arith, ap, ℕ, ◌<◌, ◌+◌, ◌-◌, length, slice_index_or}
 use native.Mathlib.Nat.{lt_of_lt_of_le}
 use Rattle.grammar.specs.Given.{grammar_given}
 use Rattle.tree.proofs.TurnLaws.{NextChild, found_inside, turn_few, turn_fit, turn_shown, turn_child, child_node}
@@ -74,8 +74,8 @@ loop-d-preserved t c =
     let k = c.loop-d-test.true in
     let n = next t (goal.at.loop-d-preserved t c).In-loop-d in
     elim c.if-symbol-lt128.branch [
-      then-symbol-lt128 w ↦ rw w.count-is (count_token _ _ _ _ _ _ _ l.d _ _ l.count k c.if-limit-count.false n l.invariant w.if-symbol-lt128.true)
-    | else-symbol-lt128 w ↦ rw w.count-is (count_category _ _ _ _ _ _ _ l.d _ _ l.count k c.if-limit-count.false n l.invariant w.if-symbol-lt128.false _ w.count_nodes-more.ensures)
+      | then-symbol-lt128 w ↦ rw w.count-is (count_token _ _ _ _ _ _ _ l.d _ _ l.count k c.if-limit-count.false n l.invariant w.if-symbol-lt128.true)
+      | else-symbol-lt128 w ↦ rw w.count-is (count_category _ _ _ _ _ _ _ l.d _ _ l.count k c.if-limit-count.false n l.invariant w.if-symbol-lt128.false _ w.count_nodes-more.ensures)
     ]
 
 pub returns : goal.returns

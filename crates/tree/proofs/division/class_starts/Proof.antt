@@ -33,9 +33,9 @@ loop-again c =
     let l = c.loop-left in
     let t = turn c.before in
     elim c.if-start-e.branch [
-      then-start-e+then-line-e w ↦ rw w.starts-is (class_more _ _ _ _ _ _ _ t l.invariant _ w.if-start-e.true w.if-line-e.true w.insert-starts.ensures)
-    | then-start-e+else-line-e w ↦ rw w.starts-is (class_skip _ _ _ _ _ _ _ t l.invariant (λ k q. w.if-line-e.false q))
-    | else-start-e w ↦ rw w.starts-is (class_skip _ _ _ _ _ _ _ t l.invariant (λ k q. omega (arith, w.if-start-e.false)))
+      | then-start-e+then-line-e w ↦ rw w.starts-is (class_more _ _ _ _ _ _ _ t l.invariant _ w.if-start-e.true w.if-line-e.true w.insert-starts.ensures)
+      | then-start-e+else-line-e w ↦ rw w.starts-is (class_skip _ _ _ _ _ _ _ t l.invariant (λ k q. w.if-line-e.false q))
+      | else-start-e w ↦ rw w.starts-is (class_skip _ _ _ _ _ _ _ t l.invariant (λ k q. omega (arith, w.if-start-e.false)))
     ]
 
 returns : tie.Need-returns invariant-loop-left decreases-loop-left
@@ -57,4 +57,3 @@ class_starts_spec =
     (λ c. (turn c.before).less)
     loop-again
     returns)
-

@@ -18,4 +18,3 @@ depth_at_spec =
     (λ c. search rules) (λ c. omega (arith, place c)) (λ c. omega (arith, place c))
     (λ c. omega (arith, place c)) (λ c. omega (arith, place c)) (λ c. omega (arith, place c))
     (λ c. omega (arith, place c.before)) (λ c. search rules))
-

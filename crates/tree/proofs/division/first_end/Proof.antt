@@ -63,4 +63,3 @@ first_end_spec =
     (λ c. search rules) (λ c κs. search rules) (λ c. search rules)
     returns-4
     returns-5)
-

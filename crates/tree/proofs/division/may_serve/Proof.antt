@@ -71,4 +71,3 @@ may_serve_spec =
     (λ c. search rules)
     cast-result
     returns-5)
-

@@ -70,4 +70,3 @@ sets_before_spec =
     (λ c. omega (arith, c.loop-d-test.true))
     loop-again
     returns-2)
-

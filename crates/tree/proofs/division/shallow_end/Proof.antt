@@ -75,4 +75,3 @@ shallow_end_spec =
     (λ c. (turn c.before.before).less)
     loop-again
     returns-2)
-

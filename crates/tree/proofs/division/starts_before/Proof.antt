@@ -30,8 +30,8 @@ loop-again c =
     let p = c.requires in
     let f = c.first_end.ensures in
     elim c.if-first_end-ne-NO_END.branch [
-      then-first_end-ne-NO_END w ↦ rw w.starts-is (before_more _ _ _ _ _ _ _ _ l.m l.starts _ c.loop-m-test.true f l.invariant _ w.if-first_end-ne-NO_END.true w.insert-starts.ensures)
-    | else-first_end-ne-NO_END w ↦ rw w.starts-is (before_skip _ _ _ _ _ _ _ _ l.m l.starts _ c.loop-m-test.true f l.invariant w.if-first_end-ne-NO_END.false p.2 (le_trans p.1 p.0))
+      | then-first_end-ne-NO_END w ↦ rw w.starts-is (before_more _ _ _ _ _ _ _ _ l.m l.starts _ c.loop-m-test.true f l.invariant _ w.if-first_end-ne-NO_END.true w.insert-starts.ensures)
+      | else-first_end-ne-NO_END w ↦ rw w.starts-is (before_skip _ _ _ _ _ _ _ _ l.m l.starts _ c.loop-m-test.true f l.invariant w.if-first_end-ne-NO_END.false p.2 (le_trans p.1 p.0))
     ]
 
 returns-2 : tie.Need-returns invariant-loop-m decreases-loop-m
@@ -50,4 +50,3 @@ starts_before_spec =
     (λ c κs. search rules) (λ c. search rules) (λ c. search rules)
     loop-again
     returns-2)
-

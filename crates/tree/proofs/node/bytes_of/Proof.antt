@@ -11,4 +11,3 @@ returns-2 c = rw c.in-Rule.is
 
 pub bytes_of_spec : {M : Type 1} → statement M
 bytes_of_spec = tie.close (tie.spec (λ c. search rules) (λ c. search rules) returns returns-2)
-

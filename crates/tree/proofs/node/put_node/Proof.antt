@@ -23,4 +23,3 @@ put_node_spec =
     (λ c. simp length-set (omega arith)) (λ c. search rules) (λ c. search rules)
     (λ c. simp length-set (omega arith)) (λ c. search rules) (λ c. search rules)
     returns)
-

@@ -41,9 +41,8 @@ may-serve-requires c κs =
 
 search-again : tie.Need-search-preserved-then-not-may_serve invariant-loop-m decreases-loop-m invariant-search decreases-search
 search-again c =
-    let r = c.before.before.before.before in
-    let s = r in
-    rule_after _ _ _ _ _ _ s.requires.0 _ _ _ _ s.requires.1 _ c.search.invariant _ refl (λ e v. c.may_serve.ensures.fails (not-true _ c.if-not-may_serve.true-raw) e _ s.requires.0.work.rows (λ l. symbols_known _ _ _ _ _ _ s.requires.0 _ (inside r) 0 l) _ v)
+    let s = c.before.before.before.before in
+    rule_after _ _ _ _ _ _ s.requires.0 _ _ _ _ s.requires.1 _ c.search.invariant _ refl (λ e v. c.may_serve.ensures.fails (not-true _ c.if-not-may_serve.true-raw) e _ s.requires.0.work.rows (λ l. symbols_known _ _ _ _ _ _ s.requires.0 _ (inside s) 0 l) _ v)
 
 sets-before-requires : tie.Need-sets_before-sets-requires invariant-loop-m decreases-loop-m invariant-search decreases-search
 sets-before-requires c κs =
@@ -137,4 +136,3 @@ search_spec =
     (λ c. omega (arith, inside (here c.before)))
     search-again-2
     returns)
-

@@ -1,5 +1,5 @@
 -- `tree::writing::write` meets its contract.
-use Rattle.std.proofs.Common.{rules, arith, ◌≡◌, ◌∙◌, ℕ, ◌<◌, ◌≤◌, ◌+◌, ◌-◌, ◌∷◌, length, slice_index_or}
+use Rattle.std.proofs.Common.{arith, ◌≡◌, ◌∙◌, ℕ, ◌<◌, ◌+◌, ◌-◌, ◌∷◌, length, slice_index_or}
 use native.Mathlib.Nat.{le_trans, lt_of_lt_of_le}
 use Rattle.derivation.specs.Node.{rule_node}
 use Rattle.derivation.specs.computed.Shown.{shown}
@@ -112,8 +112,8 @@ loop-d-preserved t c =
     let n = next t a.In-loop-d in
     let v = c.loop-d.invariant in
     elim c.if-symbol-lt128.branch [
-      then-symbol-lt128 w ↦ let p = w.put_node-place-then-symbol-lt128.ensures in token_written _ _ _ _ _ _ _ _ _ _ y room _ _ q o _ _ _ _ _ k n v w.if-symbol-lt128.true (w.place-is ∙ p.0) (w.out-is ∙ (rw w.token_node.ensures at p.1))
-    | else-symbol-lt128 w ↦ let p = w.write-place.ensures in category_written _ _ _ _ _ _ _ _ _ _ y room _ _ q o _ _ _ _ _ k n v w.if-symbol-lt128.false (w.place-is ∙ p.0) (w.out-is ∙ p.1)
+      | then-symbol-lt128 w ↦ let p = w.put_node-place-then-symbol-lt128.ensures in token_written _ _ _ _ _ _ _ _ _ _ y room _ _ q o _ _ _ _ _ k n v w.if-symbol-lt128.true (w.place-is ∙ p.0) (w.out-is ∙ (rw w.token_node.ensures at p.1))
+      | else-symbol-lt128 w ↦ let p = w.write-place.ensures in category_written _ _ _ _ _ _ _ _ _ _ y room _ _ q o _ _ _ _ _ k n v w.if-symbol-lt128.false (w.place-is ∙ p.0) (w.out-is ∙ p.1)
     ]
 
 pub returns : goal.returns
