@@ -9,7 +9,6 @@ use Rattle.derivation.specs.computed.Table.{depth_of}
 use Rattle.derivation.specs.computed.Shown.{chosen_rule}
 use Rattle.grammar.specs.Given.{grammar_given}
 use Rattle.tree.proofs.SearchLaws.{SearchTurn, symbols_few, symbols_known, symbols_fit, node_rises, rule_inside, rule_after, rule_found, turn_begin, turn_inside, turn_fails, turn_whole, turn_next}
-use borrow.Author.Tests.{not-true, not-false}
 use Rattle.tree.proofs.search.search.Statement.{statement}
 use Rattle.tree.proofs.search.search.Tie as tie
 
@@ -42,7 +41,7 @@ may-serve-requires c κs =
 search-again : tie.Need-search-preserved-then-not-may_serve invariant-loop-m decreases-loop-m invariant-search decreases-search
 search-again c =
     let s = c.before.before.before.before in
-    rule_after _ _ _ _ _ _ s.requires.0 _ _ _ _ s.requires.1 _ c.search.invariant _ refl (λ e v. c.may_serve.ensures.fails (not-true _ c.if-not-may_serve.true-raw) e _ s.requires.0.work.rows (λ l. symbols_known _ _ _ _ _ _ s.requires.0 _ (inside s) 0 l) _ v)
+    rule_after _ _ _ _ _ _ s.requires.0 _ _ _ _ s.requires.1 _ c.search.invariant _ refl (λ e v. c.may_serve.ensures.fails c.if-not-may_serve.true e _ s.requires.0.work.rows (λ l. symbols_known _ _ _ _ _ _ s.requires.0 _ (inside s) 0 l) _ v)
 
 sets-before-requires : tie.Need-sets_before-sets-requires invariant-loop-m decreases-loop-m invariant-search decreases-search
 sets-before-requires c κs =
@@ -101,7 +100,7 @@ returns c =
     let l = c.before.before in
     let s = here l in
     let e = c.rule_symbols-symbols.ensures in
-    let a = c.may_serve.ensures.passes (not-false _ c.if-not-may_serve.false-raw) in
+    let a = c.may_serve.ensures.passes c.if-not-may_serve.false in
     let w = turn_whole _ _ s.requires.0.proper _ _ _ _ s.requires.0.short s.requires.1.end _ _ _ c.loop-m.invariant c.if-d-symbols.true c.loop-m-test.true (rw e a.1) in
     rule_found _ _ _ _ _ _ s.requires.0 _ _ _ _ s.requires.1 _ (here l).search.invariant _ e _ a.0 w.0 w.1
 
