@@ -1,5 +1,6 @@
 // The question Tree.
 #![tactic(auto)]
+
 ghost use Rattle.std.specs.Prelude.{◌≡◌, ◌≤◌, ◌<◌, length};
 ghost use Rattle.checks.specs.Memory.{chart_size, depths_size};
 ghost use Rattle.grammar.specs.declared.reading.Reading.TheVariants.{Accepted};

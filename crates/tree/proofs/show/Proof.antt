@@ -11,54 +11,48 @@ use borrow.Author.Rules.{rules}
 use Rattle.tree.proofs.show.Statement.{statement}
 use Rattle.tree.proofs.show.Tie as tie
 
--- the function's entry
-abbrev entry : tie.After-slice-known → tie.Start
-entry c = c.before.before.before.before.before
-
-returns : tie.Need-returns
-returns c = let p = (entry c.before.before).requires in show_none _ _ _ _ _ (given_proper _ _ p.0) _ _ (p.6 _ _ _ (given_categories _ _ p.0 _ p.2) p.3 p.4) (sym c.before.depth-at.ensures ∙ c.if1.true)
+returns : tie.Need-returns-then-depth-eq0
+returns c = let p = c.requires in show_none _ _ _ _ _ (given_proper _ _ p.0) _ _ (p.6 _ _ _ (given_categories _ _ p.0 _ p.2) p.3 p.4) (sym c.depth_at-depth.ensures ∙ c.if-depth-eq0.true)
 
 -- the fact as a node
-node : (c : tie.Else1) → let a = (entry c.before.before).args in NodeAt (grammar_given a.g.now) a.line.now a.a a.i a.j c.before.depth-at.result
+node : (c : tie.Else-depth-eq0) → let a = c.args in NodeAt (grammar_given a.g.now) a.line.now a.a a.i a.j c.depth_at-depth.result
 node c =
-    let e = entry c.before.before in
-    let p = e.pre in
-    node_at _ _ _ _ _ (given_proper _ _ p.0) e.args.depths.now p.6 (given_categories _ _ p.0 _ p.2) p.3 p.4 _ c.before.depth-at.ensures c.if1.false
+    let p = c.requires in
+    node_at _ _ _ _ _ (given_proper _ _ p.0) c.args.depths.now p.6 (given_categories _ _ p.0 _ p.2) p.3 p.4 _ c.depth_at-depth.ensures c.if-depth-eq0.false
 
 -- the rules where they stand
-ready : (c : tie.After-rule-starts-of) →
-    let a = (entry c.before.before.before).args in
-    Searchable (grammar_given a.g.now) a.g.now c.rule-starts-of.result a.line.now a.words.now a.depths.now
-ready c = let p = (entry c.before.before.before).requires in searchable _ _ _ _ _ _ p.0 c.rule-starts-of.ensures p.1 p.7 p.5 (record { kept = p.6; rows = p.8 })
+ready : (c : tie.After-rule_starts_of-starts) →
+    let a = c.args in
+    Searchable (grammar_given a.g.now) a.g.now c.rule_starts_of-starts.result a.line.now a.words.now a.depths.now
+ready c = let p = c.requires in searchable _ _ _ _ _ _ p.0 c.rule_starts_of-starts.ensures p.1 p.7 p.5 (record { kept = p.6; rows = p.8 })
 
-returns-2 : tie.Need-returns-2
+returns-2 : tie.Need-returns-then-room-count
 returns-2 c =
     let counted = c.before in
     let known = counted.before.before.before in
-    show_small _ _ _ _ _ (given_proper _ _ (entry known.before.before).requires.0) _ _ _ (node known) counted.count-nodes.ensures c.if2.true
+    show_small _ _ _ _ _ (given_proper _ _ c.requires.0) _ _ _ (node known) counted.count_nodes-count.ensures c.if-room-count.true
 
 write-requires : tie.Need-write-requires
 write-requires c κs =
     let counted = c.before.before.before in
     let rules = counted.before.before in
     let known = rules.before in
-    let e = entry known.before.before in
-    (ready rules, node known, has_room _ _ _ _ _ (given_proper _ _ e.pre.0) e.args.out.now _ _ (node known) counted.count-nodes.ensures c.before.before.if2.false)
+    (ready rules, node known, has_room _ _ _ _ _ (given_proper _ _ c.requires.0) c.args.out.now _ _ (node known) counted.count_nodes-count.ensures c.if-room-count.false)
 
-returns-3 : tie.Need-returns-3
+returns-3 : tie.Need-returns
 returns-3 c =
     let call = c.before.before.before in
     let counted = call.before.before.before in
     let known = counted.before.before.before in
-    show_all _ _ _ _ _ (given_proper _ _ (entry known.before.before).requires.0) _ _ _ (node known) counted.count-nodes.ensures _ call.before.before.if2.false c.before.before.write.ensures.1
+    show_all _ _ _ _ _ (given_proper _ _ c.requires.0) _ _ _ (node known) counted.count_nodes-count.ensures _ call.if-room-count.false c.write.ensures.1
 
-pub show-spec : {M : Type 1} → statement M
-show-spec =
+pub show_spec : {M : Type 1} → statement M
+show_spec =
     tie.close
     (tie.spec
-    (λ c κs. let p = (entry c).requires in (p.1, p.3, p.4, depths_inside _ _ _ _ p.2 p.5))
+    (λ c κs. let p = c.requires in (p.1, p.3, p.4, depths_inside _ _ _ _ p.2 p.5))
     returns
-    (λ c κs. (accepted _ _ (entry c.before.before).requires.0).0)
+    (λ c κs. (accepted _ _ c.requires.0).0)
     (λ c κs. (ready c.before, node c.before.before, omega arith))
     returns-2
     write-requires

@@ -11,30 +11,25 @@ use borrow.Author.Rules.{rules}
 use Rattle.tree.proofs.tree.Statement.{statement}
 use Rattle.tree.proofs.tree.Tie as tie
 
--- the function's entry
-abbrev origin : tie.After-checked → tie.Start
-origin c = c.before.before.before.before.before.before
-
-passes : (c : tie.After-s) →
-    let a = (origin c.before.before).args in
-    Passes a.g.now a.line.now (Span a.category a.start a.end) (length a.words.now) (length a.depths.now) c.s.given.0.0
-passes c = checked_accepted _ _ _ _ _ _ (sym c.before.before.checked.ensures ∙ c.s.given.1)
+passes : (c : tie.In-Accepted) →
+    let a = c.args in
+    Passes a.g.now a.line.now (Span a.category a.start a.end) (length a.words.now) (length a.depths.now) c.in-Accepted.s
+passes c = checked_accepted _ _ _ _ _ _ (sym c.checked.ensures ∙ c.in-Accepted.is)
 
 -- the checks have passed, from where the memory is filled
-abbrev asked : tie.After-fill → tie.After-s
-asked c = c.before.before.before.before
+abbrev asked : tie.After-fill → tie.In-Accepted
+asked c = c.before.before.before
 
 -- the memory is filled, from where the tree is to be shown
-abbrev filled : tie.After-show-arg3 → tie.After-fill
-filled c = c.before.before.before.before.before.before.before
+abbrev filled : tie.After-show-arg-1 → tie.After-fill
+filled c = c.before.before.before.before.before
 
-returns : tie.Need-returns
+returns : tie.Need-returns-in-Refused
 returns c =
-    let checks = c.before.before.before in
-    let a = (origin checks).args in
+    let a = c.args in
     let asked = Span a.category a.start a.end in
     let G = grammar_given a.g.now in
-    tree_turned _ _ _ _ _ _ _ _ _ (checked_refused a.g.now a.line.now asked a.words.now a.depths.now Passed Passed _ (sym checks.checked.ensures ∙ c.before.refusal.given.1))
+    tree_turned _ _ _ _ _ _ _ _ _ (checked_refused a.g.now a.line.now asked a.words.now a.depths.now Passed Passed _ (sym c.checked.ensures ∙ c.in-Refused.is))
 
 show-requires : tie.Need-show-requires
 show-requires c κs =
@@ -43,19 +38,19 @@ show-requires c κs =
     let work = (filled c).fill.ensures.work in
     (p.read, (line_is p).short, span.0, span.1, span.2, rw work.depths_long (memory_is p).1, filled_kept p work, rw work.words_long (memory_is p).0, filled_rows p work)
 
-returns-2 : tie.Need-returns-2
+returns-2 : tie.Need-returns
 returns-2 c =
     let f = filled c.before.before.before in
-    tree_shown _ _ _ _ _ _ _ _ _ (passes (asked f)) f.fill.ensures.work _ _ c.before.before.show.ensures
+    tree_shown _ _ _ _ _ _ _ _ _ (passes (asked f)) f.fill.ensures.work _ _ c.show.ensures
 
-pub tree-spec : {M : Type 1} → statement M
-tree-spec =
+pub tree_spec : {M : Type 1} → statement M
+tree_spec =
     tie.close
     (tie.spec
     (λ c κs. search rules) (λ c. search rules)
     returns
     (λ c. search rules)
-    (λ c κs. fillable (passes c.before.before.before))
+    (λ c κs. fillable (passes c.before.before))
     show-requires
     (λ c. search rules) (λ c. search rules) (λ c. search rules)
     returns-2)

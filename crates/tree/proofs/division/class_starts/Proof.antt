@@ -1,55 +1,52 @@
 -- `tree::division::class_starts` meets its contract. The loop's invariant: of the set, the members that have left are tried.
 use Prim.Native.Nat.{◌-◌}
-use mathlib.Core.Logic.{⊎_elim}
 use native.Mathlib.Omega.{arith}
 use borrow.Author.Rules.{rules}
 use Rattle.positions.proofs.Taking.{Taken, taken}
 use Rattle.tree.proofs.DivisionLaws.{ClassTurn, class_none, class_more, class_skip, class_all}
 use Rattle.tree.proofs.division.class_starts.Statement.{statement}
+use Rattle.tree.proofs.division.class_starts.Lts.{then-start-e+then-line-e, then-start-e+else-line-e, else-start-e}
 use Rattle.tree.proofs.division.class_starts.Tie as tie
 
-abbrev invariant-loop : tie.invariant-loop
-invariant-loop class line set start starts₀ left₀ starts left = ClassTurn line class set start left starts
+abbrev invariant-loop-left : tie.invariant-loop-left
+invariant-loop-left class line set start starts₀ left₀ starts left = ClassTurn line class set start left starts
 
-abbrev decreases-loop : tie.decreases-loop
-decreases-loop class line set start starts₀ left₀ starts left = left
+abbrev decreases-loop-left : tie.decreases-loop-left
+decreases-loop-left class line set start starts₀ left₀ starts left = left
 
 -- the end that a turn takes
-turn : (c : tie.After-first invariant-loop decreases-loop) → Taken c.before.before.loop.left c.first.result
-turn c = taken _ _ c.first.ensures (omega (arith, c.before.before.loop.invariant.low)) c.before.loop-test.true
+turn : (c : tie.After-first-e invariant-loop-left decreases-loop-left) → Taken c.loop-left.left c.first-e.result
+turn c = taken _ _ c.first-e.ensures (omega (arith, c.loop-left.invariant.low)) c.loop-left-test.true
 
-loop-holds : tie.Need-loop-init invariant-loop decreases-loop
+loop-holds : tie.Need-loop-left-init invariant-loop-left decreases-loop-left
 loop-holds c = class_none _ _ _ _
 
-shared-slice-read-if2 : tie.Need-shared-slice-read-if2 invariant-loop decreases-loop
+shared-slice-read-if2 : tie.Need-bounds-line-e invariant-loop-left decreases-loop-left
 shared-slice-read-if2 c =
-    let f = c.before.before in
-    let l = f.before.before in
-    omega (arith, l.before.before.requires.1 _ (l.loop.invariant.part _ (turn f).here), c.before.if1.true)
+    omega (arith, c.requires.1 _ (c.loop-left.invariant.part _ (turn c.before.before).here), c.if-start-e.true)
 
-cast-if2 : tie.Need-overflow-cast-if2 invariant-loop decreases-loop
-cast-if2 c = omega (arith, c.shared-slice-known2.given (c.before.before.first.result - 1))
+cast-if2 : tie.Need-overflow_cast-line invariant-loop-left decreases-loop-left
+cast-if2 c = omega (arith, c.shared_slice_known-then-start-e-1.given (c.first-e.result - 1))
 
-loop-again : tie.Need-loop-preserved invariant-loop decreases-loop
+loop-again : tie.Need-loop-left-preserved invariant-loop-left decreases-loop-left
 loop-again c =
-    let l = c.before.before.before.loop in
+    let l = c.loop-left in
     let t = turn c.before in
-    ⊎_elim
-    (λ w. rw w.4 (class_more _ _ _ _ _ _ _ t l.invariant _ w.0.taken w.2.taken w.3.ensures))
-    (⊎_elim
-    (λ w. rw w.3 (class_skip _ _ _ _ _ _ _ t l.invariant (λ k q. w.2.left q)))
-    (λ w. rw w.1 (class_skip _ _ _ _ _ _ _ t l.invariant (λ k q. omega (arith, w.0.left)))))
-    c.if1.branch
+    elim c.if-start-e.branch [
+      | then-start-e+then-line-e w ↦ rw w.starts-is (class_more _ _ _ _ _ _ _ t l.invariant _ w.if-start-e.true w.if-line-e.true w.insert-starts.ensures)
+      | then-start-e+else-line-e w ↦ rw w.starts-is (class_skip _ _ _ _ _ _ _ t l.invariant (λ k q. w.if-line-e.false q))
+      | else-start-e w ↦ rw w.starts-is (class_skip _ _ _ _ _ _ _ t l.invariant (λ k q. omega (arith, w.if-start-e.false)))
+    ]
 
-returns : tie.Need-returns invariant-loop decreases-loop
-returns c = class_all _ _ _ _ _ (rw c.loop-test.false at c.before.loop.invariant)
+returns : tie.Need-returns invariant-loop-left decreases-loop-left
+returns c = class_all _ _ _ _ _ (rw c.loop-left-test.false at c.loop-left.invariant)
 
-pub class-starts-spec : {M : Type 1} → statement M
-class-starts-spec =
+pub class_starts_spec : {M : Type 1} → statement M
+class_starts_spec =
     tie.close
     (tie.spec
-    invariant-loop
-    decreases-loop
+    invariant-loop-left
+    decreases-loop-left
     loop-holds
     (λ c κs. search rules) (λ c. search rules) (λ c. search rules)
     shared-slice-read-if2

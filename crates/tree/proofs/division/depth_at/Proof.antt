@@ -11,8 +11,8 @@ use Rattle.tree.proofs.division.depth_at.Tie as tie
 place : (c : tie.Start) → let a = c.args in (a.category * (a.n + 1) + a.start) * (a.n + 1) + a.end < length a.depths.now
 place c = let a = c.args in depth_place a.n _ a.category a.start a.end c.requires.1 c.requires.2 c.requires.3
 
-pub depth-at-spec : {M : Type 1} → statement M
-depth-at-spec =
+pub depth_at_spec : {M : Type 1} → statement M
+depth_at_spec =
     tie.close
     (tie.spec
     (λ c. search rules) (λ c. omega (arith, place c)) (λ c. omega (arith, place c))

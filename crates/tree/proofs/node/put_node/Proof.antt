@@ -10,12 +10,12 @@ use Rattle.tree.proofs.node.put_node.Tie as tie
 returns : tie.Need-returns
 returns c = (
   refl,
-  wrote_four c.before.before.args.out.now c.before.before.args.at (get_or c.bytes_of.result 0 0) (get_or c.bytes_of.result 1 0) (get_or c.bytes_of.result 2 0) (get_or c.bytes_of.result 3 0) c.before.before.requires
-      ∙ rw (c.bytes_of.ensures, kind_four c.before.before.args.node.kind c.before.before.args.node.start c.before.before.args.node.end),
+  wrote_four c.args.out.now c.args.at (get_or c.bytes_of-bytes.result 0 0) (get_or c.bytes_of-bytes.result 1 0) (get_or c.bytes_of-bytes.result 2 0) (get_or c.bytes_of-bytes.result 3 0) c.requires
+      ∙ rw (c.bytes_of-bytes.ensures, kind_four c.args.node.kind c.args.node.start c.args.node.end),
 )
 
-pub put-node-spec : {M : Type 1} → statement M
-put-node-spec =
+pub put_node_spec : {M : Type 1} → statement M
+put_node_spec =
     tie.close
     (tie.spec
     (λ c κs. search rules) (λ c. search rules) (λ c. search rules) (λ c. search rules) (λ c. search rules)
