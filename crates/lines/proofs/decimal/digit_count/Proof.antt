@@ -9,32 +9,33 @@ use Rattle.lines.proofs.DecimalLaws.{decimal_short, decimal_length}
 use Rattle.lines.proofs.decimal.digit_count.Statement.{statement}
 use Rattle.lines.proofs.decimal.digit_count.Tie as tie
 
-abbrev invariant-loop : tie.invariant-loop
-invariant-loop n count₀ rest₀ count rest = (count + length (decimal rest) ≡ length (decimal n) + 1) × (count + rest ≤ n + 1)
+abbrev invariant-loop-rest : tie.invariant-loop-rest
+invariant-loop-rest n count₀ rest₀ count rest = (count + length (decimal rest) ≡ length (decimal n) + 1) × (count + rest ≤ n + 1)
 
-abbrev decreases-loop : tie.decreases-loop
-decreases-loop n count₀ rest₀ count rest = rest
+abbrev decreases-loop-rest : tie.decreases-loop-rest
+decreases-loop-rest n count₀ rest₀ count rest = rest
 
-loop-holds : tie.Need-loop-init invariant-loop decreases-loop
+loop-holds : tie.Need-loop-rest-init invariant-loop-rest decreases-loop-rest
 loop-holds c = (omega arith, omega arith)
 
-loop-again : tie.Need-loop-preserved invariant-loop decreases-loop
+loop-again : tie.Need-loop-rest-preserved invariant-loop-rest decreases-loop-rest
 loop-again c =
-    let l = c.before.loop in
-    (omega (arith, l.invariant.0, decimal_length l.rest c.loop-test.true), omega (arith, l.invariant.1))
+    let l = c.loop-rest in
+    (omega (arith, l.invariant.0, decimal_length l.rest c.loop-rest-test.true), omega (arith, l.invariant.1))
 
-returns : tie.Need-returns invariant-loop decreases-loop
+returns : tie.Need-returns invariant-loop-rest decreases-loop-rest
 returns c =
-    let l = c.before.loop in
-    omega (arith, l.invariant.0, decimal_short l.rest c.loop-test.false)
+    let l = c.loop-rest in
+    omega (arith, l.invariant.0, decimal_short l.rest c.loop-rest-test.false)
 
-pub digit-count-spec : {M : Type 1} → statement M
-digit-count-spec =
+pub digit_count_spec : {M : Type 1} → statement M
+digit_count_spec =
     tie.close
     (tie.spec
-    invariant-loop
-    decreases-loop
+    invariant-loop-rest
+    decreases-loop-rest
     loop-holds
-    (λ c. omega (arith, c.before.loop.invariant.1)) (λ c. omega arith)
+    (λ c. omega (arith, c.loop-rest.invariant.1)) (λ c. omega arith)
     loop-again
     returns)
+

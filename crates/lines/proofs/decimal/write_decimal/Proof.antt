@@ -11,31 +11,31 @@ use Rattle.lines.proofs.DecimalLaws.{decimal_length, decimal_some, wrote_more, w
 use Rattle.lines.proofs.decimal.write_decimal.Statement.{statement}
 use Rattle.lines.proofs.decimal.write_decimal.Tie as tie
 
-abbrev invariant-loop : tie.invariant-loop
-invariant-loop out₀ at n end place₀ rest₀ out place rest =
+abbrev invariant-loop-rest : tie.invariant-loop-rest
+invariant-loop-rest out₀ at n end place₀ rest₀ out place rest =
     (place + 1 ≡ at + length (decimal rest)) × (place < length out₀) × (length out ≡ length out₀) × (wrote out at (decimal rest) ≡ wrote out₀ at (decimal n))
 
-abbrev decreases-loop : tie.decreases-loop
-decreases-loop out₀ at n end place₀ rest₀ out place rest = rest
+abbrev decreases-loop-rest : tie.decreases-loop-rest
+decreases-loop-rest out₀ at n end place₀ rest₀ out place rest = rest
 
-sub-place : tie.Need-overflow-sub-place invariant-loop decreases-loop
-sub-place c = omega (arith, c.digit-count.ensures, decimal_some c.before.before.args.n)
+sub-place : tie.Need-overflow_sub-place invariant-loop-rest decreases-loop-rest
+sub-place c = omega (arith, c.digit_count.ensures, decimal_some c.args.n)
 
-loop-holds : tie.Need-loop-init invariant-loop decreases-loop
+loop-holds : tie.Need-loop-rest-init invariant-loop-rest decreases-loop-rest
 loop-holds c =
-    let count = c.digit-count.ensures in
-    let some = decimal_some c.before.before.args.n in
-    (omega (arith, count, some), omega (arith, count, some, c.before.before.requires), refl, refl)
+    let count = c.digit_count.ensures in
+    let some = decimal_some c.args.n in
+    (omega (arith, count, some), omega (arith, count, some, c.requires), refl, refl)
 
-sub-place-2 : tie.Need-overflow-sub-place-2 invariant-loop decreases-loop
+sub-place-2 : tie.Need-overflow_sub-place-in-loop-rest invariant-loop-rest decreases-loop-rest
 sub-place-2 c =
-    let l = c.before.loop in
-    omega (arith, l.invariant.0, decimal_length l.rest c.loop-test.true, decimal_some (l.rest / 10))
+    let l = c.loop-rest in
+    omega (arith, l.invariant.0, decimal_length l.rest c.loop-rest-test.true, decimal_some (l.rest / 10))
 
-loop-again : tie.Need-loop-preserved invariant-loop decreases-loop
+loop-again : tie.Need-loop-rest-preserved invariant-loop-rest decreases-loop-rest
 loop-again c =
-    let l = c.before.loop in
-    let h = c.loop-test.true in
+    let l = c.loop-rest in
+    let h = c.loop-rest-test.true in
     let shorter = decimal_length l.rest h in
     let some = decimal_some (l.rest / 10) in (
       omega (arith, l.invariant.0, shorter, some),
@@ -44,29 +44,30 @@ loop-again c =
       wrote_more _ _ l.rest _ h l.invariant.0 (omega (arith, l.invariant.1, l.invariant.2)) ∙ l.invariant.3,
     )
 
-returns : tie.Need-returns invariant-loop decreases-loop
+returns : tie.Need-returns invariant-loop-rest decreases-loop-rest
 returns c =
-    let l = c.before.loop in
+    let l = c.loop-rest in
     record {
-      holds = wrote_first _ _ l.rest _ c.loop-test.false l.invariant.0 (omega (arith, l.invariant.1, l.invariant.2)) ∙ l.invariant.3;
-      after = rw c.before.before.digit-count.ensures;
+      holds = wrote_first _ _ l.rest _ c.loop-rest-test.false l.invariant.0 (omega (arith, l.invariant.1, l.invariant.2)) ∙ l.invariant.3;
+      after = rw c.digit_count.ensures;
     }
 
-pub write-decimal-spec : {M : Type 1} → statement M
-write-decimal-spec =
+pub write_decimal_spec : {M : Type 1} → statement M
+write_decimal_spec =
     tie.close
     (tie.spec
-    invariant-loop
-    decreases-loop
+    invariant-loop-rest
+    decreases-loop-rest
     (λ c κs. search rules) (λ c. search rules)
     sub-place
     loop-holds
     (λ c. search rules) (λ c. search rules)
-    (λ c. let l = c.before.loop in omega (arith, l.invariant.1, l.invariant.2))
+    (λ c. let l = c.loop-rest in omega (arith, l.invariant.1, l.invariant.2))
     sub-place-2
     (λ c. omega arith)
     loop-again
     (λ c. search rules) (λ c. search rules)
-    (λ c. let l = c.before.loop in omega (arith, l.invariant.1, l.invariant.2))
-    (λ c. rw length-set c.before.loop.invariant.2)
+    (λ c. let l = c.loop-rest in omega (arith, l.invariant.1, l.invariant.2))
+    (λ c. rw length-set c.loop-rest.invariant.2)
     returns)
+

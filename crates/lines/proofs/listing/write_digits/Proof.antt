@@ -12,53 +12,53 @@ use Rattle.lines.proofs.WriteLaws.{stored_none, stored_more, stored_long, digits
 use Rattle.lines.proofs.listing.write_digits.Statement.{statement}
 use Rattle.lines.proofs.listing.write_digits.Tie as tie
 
-abbrev invariant-loop : tie.invariant-loop
-invariant-loop out₀ at marks n t₀ out t = (t ≤ n) × Stored out₀ at (map digit_code (take t marks)) out (at + t)
+abbrev invariant-loop-t : tie.invariant-loop-t
+invariant-loop-t out₀ at marks n t₀ out t = (t ≤ n) × Stored out₀ at (map digit_code (take t marks)) out (at + t)
 
-abbrev decreases-loop : tie.decreases-loop
-decreases-loop out₀ at marks n t₀ out t = n - t
+abbrev decreases-loop-t : tie.decreases-loop-t
+decreases-loop-t out₀ at marks n t₀ out t = n - t
 
-loop-holds : tie.Need-loop-init invariant-loop decreases-loop
+loop-holds : tie.Need-loop-t-init invariant-loop-t decreases-loop-t
 loop-holds c = (omega arith, rw add-zero (stored_none _ _))
 
-add-out : tie.Need-overflow-add-out invariant-loop decreases-loop
-add-out c = omega (arith, c.before.before.before.requires.2 c.before.before.loop.t c.before.loop-test.true)
+add-out : tie.Need-overflow_add-out invariant-loop-t decreases-loop-t
+add-out c = omega (arith, c.requires.2 c.loop-t.t c.loop-t-test.true)
 
-slice-write-out : tie.Need-slice-write-out invariant-loop decreases-loop
+slice-write-out : tie.Need-bounds-out-at invariant-loop-t decreases-loop-t
 slice-write-out c =
-    let l = c.before.before.loop in
-    let pre = c.before.before.before.requires in
-    let long = stored_long (omega (arith, digits_long c.before.before.before.args.marks.now l.t (omega (arith, l.invariant.0, pre.0)), l.invariant.0, pre.1)) l.invariant.1 in
-    omega (arith, long, pre.1, c.before.loop-test.true)
+    let l = c.loop-t in
+    let pre = c.requires in
+    let long = stored_long (omega (arith, digits_long c.args.marks.now l.t (omega (arith, l.invariant.0, pre.0)), l.invariant.0, pre.1)) l.invariant.1 in
+    omega (arith, long, pre.1, c.loop-t-test.true)
 
-loop-again : tie.Need-loop-preserved invariant-loop decreases-loop
+loop-again : tie.Need-loop-t-preserved invariant-loop-t decreases-loop-t
 loop-again c =
-    let l = c.before.before.loop in
-    let pre = c.before.before.before.requires in
-    let marks = c.before.before.before.args.marks.now in
+    let l = c.loop-t in
+    let pre = c.requires in
+    let marks = c.args.marks.now in
     let part = digits_long marks l.t (omega (arith, l.invariant.0, pre.0)) in
-    (omega arith, rw (digits_more marks l.t (omega (arith, pre.0, c.before.loop-test.true)), ← add_assoc) (stored_more _ (omega (arith, part, pre.1, c.before.loop-test.true)) l.invariant.1))
+    (omega arith, rw (digits_more marks l.t (omega (arith, pre.0, c.loop-t-test.true)), ← add_assoc) (stored_more _ (omega (arith, part, pre.1, c.loop-t-test.true)) l.invariant.1))
 
-same_length : tie.Need-same-length invariant-loop decreases-loop
+same_length : tie.Need-shape_of-out invariant-loop-t decreases-loop-t
 same_length c =
-    let l = c.before.loop in
-    let pre = c.before.before.requires in
-    stored_long (omega (arith, digits_long c.before.before.args.marks.now l.t (omega (arith, l.invariant.0, pre.0)), l.invariant.0, pre.1)) l.invariant.1
+    let l = c.loop-t in
+    let pre = c.requires in
+    stored_long (omega (arith, digits_long c.args.marks.now l.t (omega (arith, l.invariant.0, pre.0)), l.invariant.0, pre.1)) l.invariant.1
 
-returns : tie.Need-returns invariant-loop decreases-loop
+returns : tie.Need-returns invariant-loop-t decreases-loop-t
 returns c =
-    let l = c.before.loop in
-    let e : l.t ≡ c.before.before.args.n = omega (arith, l.invariant.0, c.loop-test.false) in
+    let l = c.loop-t in
+    let e : l.t ≡ c.args.n = omega (arith, l.invariant.0, c.loop-t-test.false) in
     rw (sym e) l.invariant.1
 
-pub write-digits-spec : {M : Type 1} → statement M
-write-digits-spec =
+pub write_digits_spec : {M : Type 1} → statement M
+write_digits_spec =
     tie.close
     (tie.spec
-    invariant-loop
-    decreases-loop
+    invariant-loop-t
+    decreases-loop-t
     loop-holds
-    (λ c. omega (arith, c.before.before.before.requires.0))
+    (λ c. omega (arith, c.requires.0))
     add-out
     (λ c. search rules)
     slice-write-out
@@ -67,3 +67,4 @@ write-digits-spec =
     (λ c. search rules)
     same_length
     returns)
+

@@ -13,64 +13,61 @@ use Rattle.lines.proofs.LineLaws.{fact_few}
 use Rattle.lines.proofs.listing.write_facts.Statement.{statement}
 use Rattle.lines.proofs.listing.write_facts.Tie as tie
 
-abbrev invariant-loop : tie.invariant-loop
-invariant-loop out₀ at depths numbers width place₀ q₀ out place q = (q ≤ numbers) × Stored out₀ at (gathered q (fact_line_at depths width)) out place
+abbrev invariant-loop-q : tie.invariant-loop-q
+invariant-loop-q out₀ at depths numbers width place₀ q₀ out place q = (q ≤ numbers) × Stored out₀ at (gathered q (fact_line_at depths width)) out place
 
-abbrev decreases-loop : tie.decreases-loop
-decreases-loop out₀ at depths numbers width place₀ q₀ out place q = numbers - q
+abbrev decreases-loop-q : tie.decreases-loop-q
+decreases-loop-q out₀ at depths numbers width place₀ q₀ out place q = numbers - q
 
-few : (c : tie.After-shared-slice-known invariant-loop decreases-loop) → let a = c.before.before.args in (k : ℕ) → k < a.numbers → length (fact_line_at a.depths.now a.width k) ≤ 29
-few c k l = let a = c.before.before.args in fact_few a.depths.now a.width k (omega arith) (omega (arith, c.shared-slice-known.given k))
+few : (c : tie.After-shared_slice_known-1 invariant-loop-q decreases-loop-q) → let a = c.args in (k : ℕ) → k < a.numbers → length (fact_line_at a.depths.now a.width k) ≤ 29
+few c k l = let a = c.args in fact_few a.depths.now a.width k (omega arith) (omega (arith, c.shared_slice_known-1.given k))
 
-loop-holds : tie.Need-loop-init invariant-loop decreases-loop
-loop-holds c = let start = c.before.before in (omega arith, gather_none 29 _ (fact_line_at start.args.depths.now start.args.width) (few c) start.requires.3)
+loop-holds : tie.Need-loop-q-init invariant-loop-q decreases-loop-q
+loop-holds c = (omega arith, gather_none 29 _ (fact_line_at c.args.depths.now c.args.width) (few c) c.requires.3)
 
-write-fact-requires : tie.Need-write-fact-requires invariant-loop decreases-loop
+write-fact-requires : tie.Need-write_fact-place-requires invariant-loop-q decreases-loop-q
 write-fact-requires c κs =
-    let here = c.before.before.before in
-    let start = here.before.before.before in
-    let q = here.loop.q in
-    let w = start.args.width in
+    let here = c.before.before.before.before in
+    let q = c.loop-q.q in
+    let w = c.args.width in
     let row = div-le_self q w in (
       omega (arith, row, div-le_self (q / w) w),
       omega (arith, row, mod-le (q / w) w),
       omega (arith, mod-le q w),
-      omega (arith, c.before.shared-slice-known2.given q),
-      gather_room 29 _ (fact_line_at start.args.depths.now w) (few here.before) start.requires.3 here.loop.invariant.1 c.before.before.loop-test.true,
+      omega (arith, c.shared_slice_known-in-loop-q-1.given q),
+      gather_room 29 _ (fact_line_at c.args.depths.now w) (few here) c.requires.3 c.loop-q.invariant.1 c.loop-q-test.true,
     )
 
-loop-again : tie.Need-loop-preserved invariant-loop decreases-loop
+loop-again : tie.Need-loop-q-preserved invariant-loop-q decreases-loop-q
 loop-again c =
     let call = c.before.before.before in
     let here = call.before.before.before in
-    let start = here.before.before.before in
-    (omega arith, gather_more 29 _ (fact_line_at start.args.depths.now start.args.width) (few here.before) start.requires.3 here.loop.invariant.1 (omega arith) c.before.before.write-fact.ensures)
+    (omega arith, gather_more 29 _ (fact_line_at here.args.depths.now here.args.width) (few here.before) here.requires.3 here.loop-q.invariant.1 (omega arith) c.write_fact-place.ensures)
 
-same_length : tie.Need-same-length invariant-loop decreases-loop
+same_length : tie.Need-shape_of-out invariant-loop-q decreases-loop-q
 same_length c =
-    let here = c.before in
-    let start = here.before.before.before in
-    gather_long 29 _ (fact_line_at start.args.depths.now start.args.width) (few here.before) start.requires.3 here.loop.invariant.1 here.loop.invariant.0
+    let here = c.before.before in
+    gather_long 29 _ (fact_line_at c.args.depths.now c.args.width) (few here) c.requires.3 c.loop-q.invariant.1 c.loop-q.invariant.0
 
-returns : tie.Need-returns invariant-loop decreases-loop
+returns : tie.Need-returns invariant-loop-q decreases-loop-q
 returns c =
-    let here = c.before in
-    let start = here.before.before.before in
-    let e : here.loop.q ≡ start.args.numbers = omega arith in
-    rw (sym e) (here.loop.invariant.1, gather_few 29 _ (fact_line_at start.args.depths.now start.args.width) (few here.before) start.requires.3 here.loop.invariant.1 here.loop.invariant.0)
+    let here = c.before.before in
+    let e : c.loop-q.q ≡ c.args.numbers = omega arith in
+    rw (sym e) (c.loop-q.invariant.1, gather_few 29 _ (fact_line_at c.args.depths.now c.args.width) (few here) c.requires.3 c.loop-q.invariant.1 c.loop-q.invariant.0)
 
-pub write-facts-spec : {M : Type 1} → statement M
-write-facts-spec =
+pub write_facts_spec : {M : Type 1} → statement M
+write_facts_spec =
     tie.close
     (tie.spec
-    invariant-loop
-    decreases-loop
+    invariant-loop-q
+    decreases-loop-q
     loop-holds
     (λ c. search rules) (λ c. search rules) (λ c. search rules)
-    (λ c. omega (arith, c.shared-slice-known2.given c.before.before.loop.q))
+    (λ c. omega (arith, c.shared_slice_known-in-loop-q-1.given c.loop-q.q))
     (λ c. search rules) (λ c. search rules) (λ c. search rules)
     write-fact-requires
     (λ c. search rules) (λ c. search rules)
     loop-again
     same_length
     returns)
+

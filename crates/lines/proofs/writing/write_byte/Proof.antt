@@ -8,5 +8,6 @@ use Rattle.lines.proofs.writing.write_byte.Tie as tie
 returns : tie.Need-returns
 returns c = stored_byte _ _ _ (omega (arith, c.requires))
 
-pub write-byte-spec : {M : Type 1} → statement M
-write-byte-spec = tie.close (tie.spec (λ c. search rules) (λ c. search rules) (λ c. search rules) returns)
+pub write_byte_spec : {M : Type 1} → statement M
+write_byte_spec = tie.close (tie.spec (λ c. search rules) (λ c. search rules) (λ c. search rules) returns)
+

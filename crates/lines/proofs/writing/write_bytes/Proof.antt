@@ -10,43 +10,43 @@ use Rattle.lines.proofs.WriteLaws.{stored_none, stored_more, stored_long, take_m
 use Rattle.lines.proofs.writing.write_bytes.Statement.{statement}
 use Rattle.lines.proofs.writing.write_bytes.Tie as tie
 
-abbrev invariant-loop : tie.invariant-loop
-invariant-loop out₀ at bytes i₀ out i = (i ≤ length bytes) × Stored out₀ at (take i bytes) out (at + i)
+abbrev invariant-loop-i : tie.invariant-loop-i
+invariant-loop-i out₀ at bytes i₀ out i = (i ≤ length bytes) × Stored out₀ at (take i bytes) out (at + i)
 
-abbrev decreases-loop : tie.decreases-loop
-decreases-loop out₀ at bytes i₀ out i = length bytes - i
+abbrev decreases-loop-i : tie.decreases-loop-i
+decreases-loop-i out₀ at bytes i₀ out i = length bytes - i
 
-loop-holds : tie.Need-loop-init invariant-loop decreases-loop
+loop-holds : tie.Need-loop-i-init invariant-loop-i decreases-loop-i
 loop-holds c = (omega arith, rw add-zero (stored_none _ _))
 
-slice-write-out : tie.Need-slice-write-out invariant-loop decreases-loop
+slice-write-out : tie.Need-bounds-out-at invariant-loop-i decreases-loop-i
 slice-write-out c =
-    let l = c.before.before.loop in
-    let part = length-take-le l.i c.before.before.before.args.bytes.now l.invariant.0 in
-    let long = stored_long (omega (arith, part, l.invariant.0, c.before.before.before.requires)) l.invariant.1 in
-    omega (arith, long, c.before.before.before.requires, c.before.loop-test.true)
+    let l = c.loop-i in
+    let part = length-take-le l.i c.args.bytes.now l.invariant.0 in
+    let long = stored_long (omega (arith, part, l.invariant.0, c.requires)) l.invariant.1 in
+    omega (arith, long, c.requires, c.loop-i-test.true)
 
-loop-again : tie.Need-loop-preserved invariant-loop decreases-loop
+loop-again : tie.Need-loop-i-preserved invariant-loop-i decreases-loop-i
 loop-again c =
-    let l = c.before.before.loop in
-    let part = length-take-le l.i c.before.before.before.args.bytes.now l.invariant.0 in
-    (omega arith, rw (take_more c.before.before.before.args.bytes.now l.i c.before.loop-test.true, ← add_assoc) (stored_more _ (omega (arith, part, c.before.before.before.requires, c.before.loop-test.true)) l.invariant.1))
+    let l = c.loop-i in
+    let part = length-take-le l.i c.args.bytes.now l.invariant.0 in
+    (omega arith, rw (take_more c.args.bytes.now l.i c.loop-i-test.true, ← add_assoc) (stored_more _ (omega (arith, part, c.requires, c.loop-i-test.true)) l.invariant.1))
 
-same_length : tie.Need-same-length invariant-loop decreases-loop
+same_length : tie.Need-shape_of-out invariant-loop-i decreases-loop-i
 same_length c =
-    let l = c.before.loop in
-    let part = length-take-le l.i c.before.before.args.bytes.now l.invariant.0 in
-    stored_long (omega (arith, part, l.invariant.0, c.before.before.requires)) l.invariant.1
+    let l = c.loop-i in
+    let part = length-take-le l.i c.args.bytes.now l.invariant.0 in
+    stored_long (omega (arith, part, l.invariant.0, c.requires)) l.invariant.1
 
-returns : tie.Need-returns invariant-loop decreases-loop
-returns c = let l = c.before.loop in rw (take_all l.i _ c.loop-test.false) at l.invariant.1
+returns : tie.Need-returns invariant-loop-i decreases-loop-i
+returns c = let l = c.loop-i in rw (take_all l.i _ c.loop-i-test.false) at l.invariant.1
 
-pub write-bytes-spec : {M : Type 1} → statement M
-write-bytes-spec =
+pub write_bytes_spec : {M : Type 1} → statement M
+write_bytes_spec =
     tie.close
     (tie.spec
-    invariant-loop
-    decreases-loop
+    invariant-loop-i
+    decreases-loop-i
     loop-holds
     (λ c. search rules) (λ c. search rules)
     slice-write-out
@@ -55,3 +55,4 @@ write-bytes-spec =
     (λ c. search rules)
     same_length
     returns)
+

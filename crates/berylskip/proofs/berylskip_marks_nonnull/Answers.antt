@@ -1,0 +1,8 @@
+-- `berylskip::berylskip_marks_nonnull`: a refusal is handed over by its number and place.
+use Rattle.std.proofs.Common.{ap}
+use Rattle.marks.specs.Told.{marks_told}
+use Rattle.berylskip.proofs.Handing.{hands_refusal}
+use Rattle.berylskip.proofs.berylskip_marks_nonnull.Goals as goal
+
+pub returns-in-Refused : goal.returns-in-Refused
+returns-in-Refused c = hands_refusal _ c.marks.ensures _ (ap marks_told c.in-Refused.is) c.refuse.ensures
