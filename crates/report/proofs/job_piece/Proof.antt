@@ -7,25 +7,21 @@ use Rattle.report.proofs.CheckLaws.{job_refused, job_passed}
 use Rattle.report.proofs.job_piece.Statement.{statement}
 use Rattle.report.proofs.job_piece.Tie as tie
 
-answer-piece-requires : tie.Need-answer-piece-requires
-answer-piece-requires c κs = let told = c.before.before in (sym told.before.before.checked.ensures ∙ told.s.given.1, search rules)
+answer-piece-requires : tie.Need-answer_piece-requires
+answer-piece-requires c κs = (sym c.checked.ensures ∙ c.in-Accepted.is, search rules)
 
-returns : tie.Need-returns
+returns : tie.Need-returns-in-Refused
 unfolding chart_pieces
 returns c =
-    let answered = c.before.before in
-    let told = answered.before.before.before in
-    rw (job_refused _ _ _ (sym told.before.before.checked.ensures ∙ told.refusal.given.1)) answered.refused-piece.ensures
+    rw (job_refused _ _ _ (sym c.checked.ensures ∙ c.in-Refused.is)) c.refused_piece.ensures
 
-returns-2 : tie.Need-returns-2
+returns-2 : tie.Need-returns-in-Accepted
 unfolding chart_pieces
 returns-2 c =
-    let answered = c.before.before in
-    let told = answered.before.before.before in
-    rw (job_passed (checked_accepted _ _ _ _ _ _ (sym told.before.before.checked.ensures ∙ told.s.given.1))) answered.answer-piece.ensures
+    rw (job_passed (checked_accepted _ _ _ _ _ _ (sym c.checked.ensures ∙ c.in-Accepted.is))) c.answer_piece.ensures
 
-pub job-piece-spec : {M : Type 1} → statement M
-job-piece-spec =
+pub job_piece_spec : {M : Type 1} → statement M
+job_piece_spec =
     tie.close
     (tie.spec
     (λ c κs. search rules) (λ c. search rules) (λ c κs. search rules) (λ c. search rules)
@@ -34,3 +30,4 @@ job-piece-spec =
     returns
     (λ c. search rules)
     returns-2)
+

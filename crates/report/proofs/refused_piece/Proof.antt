@@ -12,20 +12,20 @@ use Rattle.report.proofs.PieceLaws.{piece_stored, piece_none, none_after_one}
 use Rattle.report.proofs.refused_piece.Statement.{statement}
 use Rattle.report.proofs.refused_piece.Tie as tie
 
-returns : tie.Need-returns
+returns : tie.Need-returns-then-number-ne0
 returns c =
-    let a = c.before.before.args in
+    let a = c.args in
     let past : 0 < a.number = omega arith in
     piece_none (refused_line (row_of a.refusal) ∷ []) a.number false (sym (le-ltb (suc a.number) 1 (omega arith))) (none_after_one (refused_line (row_of a.refusal)) a.number past)
 
-returns-2 : tie.Need-returns-2
+returns-2 : tie.Need-returns
 returns-2 c =
-    let call = c.before.before.before in
-    let a = call.before.before.before.args in
+    let a = c.args in
     let e : a.number ≡ 0 = omega arith in
-    rw e (piece_stored (refused_line (row_of a.refusal) ∷ []) 0 false refl (refused_line (row_of a.refusal)) refl c.before.before.refused-line.ensures.0)
+    rw e (piece_stored (refused_line (row_of a.refusal) ∷ []) 0 false refl (refused_line (row_of a.refusal)) refl c.refused_line.ensures.0)
 
-pub refused-piece-spec : {M : Type 1} → statement M
-refused-piece-spec =
+pub refused_piece_spec : {M : Type 1} → statement M
+refused_piece_spec =
     tie.close
-    (tie.spec returns (λ c κs. omega (arith, c.before.before.before.requires)) (λ c. search rules) returns-2)
+    (tie.spec returns (λ c κs. omega (arith, c.requires)) (λ c. search rules) returns-2)
+

@@ -10,43 +10,41 @@ use Rattle.report.proofs.write_piece.Statement.{statement}
 use Rattle.report.proofs.write_piece.Tie as tie
 
 -- the function's entry, and what was read, from where the job is told; and that, from where the grammar is handed on
-abbrev entry : tie.After-job → tie.Start
-entry c = c.before.before.before.before.before
+abbrev entry : tie.In-Read → tie.Start
+entry c = c.before.before.before.before
 
-read : (c : tie.After-job) → JobRead (entry c).args.input.now c.job.given.0.0
-read c = job_read _ _ (sym c.before.before.read-job.ensures ∙ c.job.given.1)
+read : (c : tie.In-Read) → JobRead (entry c).args.input.now c.in-Read.job
+read c = job_read _ _ (sym c.read_job.ensures ∙ c.in-Read.is)
 
-abbrev told : tie.After-job-piece-arg → tie.After-job
-told c = c.before.before.before.before
+abbrev told : tie.After-job_piece-arg-1 → tie.In-Read
+told c = c.before.before.before
 
-returns : tie.Need-returns
+returns : tie.Need-returns-in-Refused
 unfolding pieces
 returns c =
-    let answered = c.before.before in
-    let refused = answered.before.before.before in
-    rw (sym refused.before.before.read-job.ensures ∙ refused.refusal.given.1) answered.refused-piece.ensures
+    rw (sym c.read_job.ensures ∙ c.in-Refused.is) c.refused_piece.ensures
 
-returns-2 : tie.Need-returns-2
+returns-2 : tie.Need-returns-in-Read
 unfolding pieces
 returns-2 c =
-    let call = c.before.before.before in
-    let asked = told call.before.before.before in
-    let job = asked.job.given.0.0 in
+    let call = c.before.before.before.before.before.before in
+    let asked = told call in
+    let job = asked.in-Read.job in
     let e₁ : 3 + job.grammar - 1 - 2 ≡ job.grammar = omega arith in
     let e₂ : 3 + job.grammar + job.line - (3 + job.grammar) ≡ job.line = omega arith in
     let questions = questions_read_lem _ _ (read asked) (3 + job.grammar + job.line + 1) (omega arith) in
-    rw (sym asked.before.before.read-job.ensures ∙ asked.job.given.1) (rw (e₁, e₂, questions) at c.before.before.job-piece.ensures)
+    rw (sym asked.read_job.ensures ∙ asked.in-Read.is) (rw (e₁, e₂, questions) at c.job_piece.ensures)
 
-pub write-piece-spec : {M : Type 1} → statement M
-write-piece-spec =
+pub write_piece_spec : {M : Type 1} → statement M
+write_piece_spec =
     tie.close
     (tie.spec
     (λ c κs. search rules) (λ c. search rules) (λ c κs. search rules) (λ c. search rules)
+    (λ c. omega (arith, (read c.before).whole))
     (λ c. omega (arith, (read c.before.before).whole))
-    (λ c. omega (arith, (read c.before.before.before).whole))
-    (λ c. omega (arith, (read c.before.before.before).whole))
+    (λ c. omega (arith, (read c.before.before).whole))
     (λ c. search rules) (λ c. search rules) (λ c. search rules)
-    (λ c. omega (arith, (read c.before.before.before).whole))
+    (λ c. omega (arith, (read c.before.before).whole))
     (λ c. search rules) (λ c. search rules) (λ c. omega (arith, (read (told c)).whole))
     (λ c. omega (arith, (read (told c.before)).whole))
     (λ c. omega (arith, (read (told c.before)).whole))
@@ -54,3 +52,4 @@ write-piece-spec =
     returns
     (λ c. search rules)
     returns-2)
+
