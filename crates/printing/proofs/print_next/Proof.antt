@@ -8,20 +8,20 @@ use Rattle.report.proofs.PieceLaws.{pieces_few, yielded_within}
 use Rattle.printing.proofs.print_next.Statement.{statement}
 use Rattle.printing.proofs.print_next.Tie as tie
 
-slice-reshare-prefix-write-all : tie.Need-slice-reshare-prefix-write-all
-slice-reshare-prefix-write-all c = yielded_within c.before.before.write-piece.ensures
+slice-reshare-prefix-write-all : tie.Need-slice_bounds-write_all-end
+slice-reshare-prefix-write-all c = yielded_within c.write_piece-next.ensures
 
-slice-aggregate-write-all : tie.Need-slice-aggregate-write-all
-slice-aggregate-write-all c = sym (length-take-le _ _ (yielded_within c.before.before.before.write-piece.ensures))
+slice-aggregate-write-all : tie.Need-slice_bounds-write_all-end-2
+slice-aggregate-write-all c = sym (length-take-le _ _ (yielded_within c.write_piece-next.ensures))
 
-add-t11 : tie.Need-overflow-add-t11
-add-t11 c = let start = c.before.before.before.before.before.before.before.before.before in omega (arith, pieces_few start.args.input.now)
+add-t11 : tie.Need-overflow_add-result
+add-t11 c = omega (arith, pieces_few c.args.input.now)
 
 returns : tie.Need-returns
-returns c = let piece = c.before.before.before.before.before.write-piece.ensures in (refl, (rw add-one piece.more, piece.holds))
+returns c = let piece = c.write_piece-next.ensures in (refl, (rw add-one piece.more, piece.holds))
 
-pub print-next-spec : {M : Type 1} → statement M
-print-next-spec =
+pub print_next_spec : {M : Type 1} → statement M
+print_next_spec =
     tie.close
     (tie.spec
     (λ c κs. search rules)
@@ -31,3 +31,4 @@ print-next-spec =
     add-t11
     (λ c. search rules)
     returns)
+

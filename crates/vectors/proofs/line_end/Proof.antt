@@ -6,39 +6,39 @@ use lib.ListN.{length}
 use Rattle.vectors.proofs.line_end.Statement.{statement}
 use Rattle.vectors.proofs.line_end.Tie as tie
 
-abbrev invariant-loop : tie.invariant-loop
-invariant-loop text at end₀ end = (at ≤ end) × (end ≤ length text)
+abbrev invariant-loop-end : tie.invariant-loop-end
+invariant-loop-end text at end₀ end = (at ≤ end) × (end ≤ length text)
 
-abbrev decreases-loop : tie.decreases-loop
-decreases-loop text at end₀ end = length text - end
+abbrev decreases-loop-end : tie.decreases-loop-end
+decreases-loop-end text at end₀ end = length text - end
 
-loop-holds : tie.Need-loop-init invariant-loop decreases-loop
+loop-holds : tie.Need-loop-end-init invariant-loop-end decreases-loop-end
 loop-holds c = (omega arith, omega arith)
 
-shared-slice-read-if1 : tie.Need-shared-slice-read-if1 invariant-loop decreases-loop
+shared-slice-read-if1 : tie.Need-bounds-text-end invariant-loop-end decreases-loop-end
 shared-slice-read-if1 c = search rules
 
-returns : tie.Need-returns invariant-loop decreases-loop
+returns : tie.Need-returns-then-text-end-eq10 invariant-loop-end decreases-loop-end
 returns c = (omega arith, omega arith)
 
-add-end : tie.Need-overflow-add-end invariant-loop decreases-loop
+add-end : tie.Need-overflow_add-end invariant-loop-end decreases-loop-end
 add-end c = search rules
 
-loop-less : tie.Need-loop-smaller invariant-loop decreases-loop
+loop-less : tie.Need-loop-end-smaller invariant-loop-end decreases-loop-end
 loop-less c = omega arith
 
-loop-again : tie.Need-loop-preserved invariant-loop decreases-loop
+loop-again : tie.Need-loop-end-preserved invariant-loop-end decreases-loop-end
 loop-again c = (omega arith, omega arith)
 
-returns-2 : tie.Need-returns-2 invariant-loop decreases-loop
+returns-2 : tie.Need-returns invariant-loop-end decreases-loop-end
 returns-2 c = (omega arith, omega arith)
 
-pub line-end-spec : {M : Type 1} → statement M
-line-end-spec =
+pub line_end_spec : {M : Type 1} → statement M
+line_end_spec =
     tie.close
     (tie.spec
-    invariant-loop
-    decreases-loop
+    invariant-loop-end
+    decreases-loop-end
     loop-holds
     shared-slice-read-if1
     returns
@@ -46,3 +46,4 @@ line-end-spec =
     loop-less
     loop-again
     returns-2)
+
