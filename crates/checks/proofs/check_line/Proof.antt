@@ -15,11 +15,8 @@ invariant-loop-token classes line token₀ token = (token ≤ length line) × (t
 abbrev decreases-loop-token : tie.decreases-loop-token
 decreases-loop-token classes line token₀ token = length line - token
 
-returns : tie.Need-returns-then-line-gt63 invariant-loop-token decreases-loop-token
-returns c = sym (line_long _ _ c.if-line-gt63.true)
-
 loop-holds : tie.Need-loop-token-init invariant-loop-token decreases-loop-token
-loop-holds c = (omega arith, sym (line_short _ _ c.if-line-gt63.false))
+loop-holds c = (omega arith, sym (line_short _ _ (omega arith)))
 
 returns-2 : tie.Need-returns-then-classes-line invariant-loop-token decreases-loop-token
 returns-2 c =
@@ -40,7 +37,7 @@ check_line_spec =
     (tie.spec
     invariant-loop-token
     decreases-loop-token
-    returns
+    (λ c. sym (line_long _ _ (omega arith)))
     loop-holds
     (λ c. search rules)
     (λ c. omega (arith, c.shared_slice_known-1.given c.loop-token.token))
