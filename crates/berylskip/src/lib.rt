@@ -1,5 +1,6 @@
 // The questions for C and Rust: an answer is 0 and its values, a refusal its number and its place. A slice's pointer is never null, and the names tell C so.
 #![tactic(auto)]
+
 ghost use Rattle.std.specs.Prelude.{◌≡◌, ◌∷◌, []};
 ghost use Rattle.refusals.specs.Row.{row_of};
 ghost use Rattle.forest.specs.Told.{forest_told};

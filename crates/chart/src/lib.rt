@@ -1,5 +1,6 @@
 // The questions Chart and Ends.
 #![tactic(auto)]
+
 ghost use Rattle.chart.specs.ChartOutcome.{ChartOutcome};
 ghost use Rattle.chart.specs.EndsOutcome.{EndsOutcome};
 

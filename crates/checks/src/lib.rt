@@ -1,5 +1,6 @@
 // The checks of a question beside its grammar: the line, the question's numbers, each lent row of work memory.
 #![tactic(auto)]
+
 ghost use Rattle.std.specs.Prelude.{◌≡◌, ◌≤◌};
 ghost use Rattle.checks.specs.Line.{line_check};
 ghost use Rattle.checks.specs.Question.{start_check, span_check, asked_check};

@@ -1,5 +1,5 @@
 -- Every (A, i, j) has a tree or has none, and every fact has a depth.
-use Prim.Native.Nat.{ℕ, zero, suc, ◌-◌, ◌≤◌, ◌<◌}
+use Prim.Native.Nat.{ℕ, zero, suc, ◌≤◌, ◌<◌}
 use mathlib.Core.Path.{◌≡◌, refl, sym, ◌∙◌}
 use mathlib.Core.Bool.{Bool, true, false, true≢false, false≢true, Bool-discrete}
 use mathlib.Core.List.{List}

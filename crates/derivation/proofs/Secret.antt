@@ -2,7 +2,7 @@
 use Prim.Native.Nat.{ℕ, suc, ◌≤◌, ◌<◌, suc-le-suc}
 use mathlib.Core.Path.{◌≡◌, refl, sym}
 use mathlib.Core.Logic.{◌↔◌, ◌⊎◌, inl, inr}
-use mathlib.Core.Bool.{Bool, true, false, ◌&&◌, ◌||◌, true≢false}
+use mathlib.Core.Bool.{Bool, true, ◌&&◌, ◌||◌, true≢false}
 use mathlib.Core.List.{List}
 use native.Mathlib.Nat.{le_trans}
 use native.Mathlib.Omega.{arith}

@@ -1,5 +1,6 @@
 // Grammar bytes: how they are read, and what they stand for.
 #![tactic(auto)]
+
 mod chains; // chains.rt: rule numbers on chains
 pub mod reading; // reading.rt: three sections, accepted or refused
 pub mod rules; // rules.rt: the rules and flags of read sections

@@ -1,5 +1,6 @@
 // The question Marks.
 #![tactic(auto)]
+
 ghost use Rattle.std.specs.Prelude.{◌*◌, ◌≤◌, ◌<◌, length};
 ghost use Rattle.checks.specs.Line.{IsLine};
 ghost use Rattle.grammar.specs.Value.{Sectioned, grammar_of};

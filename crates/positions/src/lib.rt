@@ -1,5 +1,6 @@
 // Sets of positions in a word of 64 bits.
 #![tactic(auto)]
+
 ghost use Rattle.std.specs.Prelude.{◌≡◌, ◌+◌, ◌^◌, ◌≤◌, ◌<◌, eqb, length};
 ghost use Rattle.positions.specs.Member.{digit};
 ghost use Rattle.positions.specs.With.{With};

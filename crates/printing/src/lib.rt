@@ -1,5 +1,6 @@
 // Prints what a job leads to.
 #![tactic(auto)]
+
 ghost use Rattle.std.specs.Prelude.{◌≡◌, true, [], ◌+◌, ◌≤◌, ◌<◌, length, get_or, ltb};
 ghost use Rattle.tree.specs.Bytes.{wrote};
 ghost use Rattle.report.specs.Printed.{pieces};

@@ -1,5 +1,6 @@
 // Why a question is turned down: one variant for each cause. Each has the document's number and place.
 #![tactic(auto)]
+
 ghost use Rattle.std.specs.Prelude.{◌≡◌};
 ghost use Rattle.refusals.specs.Row.{row_of};
 

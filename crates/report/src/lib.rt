@@ -1,5 +1,6 @@
 // What the program prints of a job, piece by piece.
 #![tactic(auto)]
+
 ghost use Rattle.std.specs.Prelude.{◌≤◌, length, ◌∷◌, []};
 ghost use Rattle.refusals.specs.Row.{row_of};
 ghost use Rattle.report.specs.Job.{questions_of};

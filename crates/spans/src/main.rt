@@ -1,5 +1,6 @@
 // Reads a job from standard input and prints what it leads to; where a write fails, standard error is told so.
 #![tactic(auto)]
+
 use printing::{job_room, piece_room, print};
 
 fn main() {

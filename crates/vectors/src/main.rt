@@ -1,5 +1,6 @@
 // Runs jobs that are written in decimal, a line of standard input each, and prints what they lead to; a line that begins with # is printed as it is.
 #![tactic(auto)]
+
 ghost use Rattle.std.specs.Prelude.{◌≡◌, ◌≤◌, ◌<◌, length};
 ghost use Rattle.vectors.specs.Onward.{Onward};
 

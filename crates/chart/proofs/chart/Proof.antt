@@ -60,4 +60,3 @@ chart_spec =
     count-ends-requires
     (λ c. search rules) (λ c. search rules)
     returns-2)
-

@@ -78,4 +78,3 @@ ends_spec =
     slice-read-row
     (λ c κs. search rules) (λ c κs. search rules) (λ c. search rules) (λ c. search rules)
     returns-2)
-

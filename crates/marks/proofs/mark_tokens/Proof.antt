@@ -1,7 +1,6 @@
 -- `marks::mark_tokens` meets its contract. The loop's invariant: the tokens below `token` have their marks, and `reach` is how far the secret spans
 -- reach that begin before it. The measure is what is left of the line.
 use Prim.Native.Nat.{◌+◌, ◌-◌, ◌≤◌, ◌<◌}
-use mathlib.Core.Logic.{⊎_elim}
 use native.Mathlib.Omega.{arith}
 use borrow.Author.Rules.{rules}
 use lib.ListN.{length, get_or}
@@ -45,9 +44,9 @@ mark : (c : tie.Joined-token-reach invariant-loop-token decreases-loop-token) �
 mark c =
     let t = c.loop-token.token in
     elim c.if-token-reach.branch [
-      then-token-reach w ↦ rw w.mark-is (mark_reached t _ (spans c.before) w.if-token-reach.true)
-    | else-token-reach w ↦
-      rw w.mark-is (mark_flag t _ (spans c.before) _ c.loop-token-test.true w.if-token-reach.false w.class_flag-mark.ensures.0 w.class_flag-mark.ensures.1)
+      | then-token-reach w ↦ rw w.mark-is (mark_reached t _ (spans c.before) w.if-token-reach.true)
+      | else-token-reach w ↦
+          rw w.mark-is (mark_flag t _ (spans c.before) _ c.loop-token-test.true w.if-token-reach.false w.class_flag-mark.ensures.0 w.class_flag-mark.ensures.1)
     ]
 
 loop-holds : tie.Need-loop-token-init invariant-loop-token decreases-loop-token
@@ -92,4 +91,3 @@ mark_tokens_spec =
     loop-again
     (λ c. search rules)
     returns)
-

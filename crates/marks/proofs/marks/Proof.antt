@@ -65,4 +65,3 @@ marks_spec =
     mark-tokens-requires
     (λ c. search rules) (λ c. search rules) (λ c. search rules)
     returns-3)
-

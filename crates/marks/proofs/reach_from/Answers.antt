@@ -14,8 +14,8 @@ loop-a-preserved c =
     let flag = c.category_flag.ensures.0 in (
       search rules,
       elim c.if-category_flag-eq1.branch [
-        then-category_flag-eq1 w ↦ rw w.reach-is (reach_secret G a.words.now a.width a.start a.far l.a l.reach l.invariant.1 _ (sym flag ∙ w.if-category_flag-eq1.true) (search rules))
-      | else-category_flag-eq1 w ↦ rw w.reach-is (reach_plain G a.words.now a.width a.start a.far l.a l.reach l.invariant.1 (λ q. w.if-category_flag-eq1.false (flag ∙ q)))
+        | then-category_flag-eq1 w ↦ rw w.reach-is (reach_secret G a.words.now a.width a.start a.far l.a l.reach l.invariant.1 _ (sym flag ∙ w.if-category_flag-eq1.true) (search rules))
+        | else-category_flag-eq1 w ↦ rw w.reach-is (reach_plain G a.words.now a.width a.start a.far l.a l.reach l.invariant.1 (λ q. w.if-category_flag-eq1.false (flag ∙ q)))
       ],
     )
 

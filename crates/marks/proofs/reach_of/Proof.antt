@@ -15,4 +15,3 @@ returns-3 c = row_nearer _ _ _ c.last-last.ensures c.if-far-last.false
 
 pub reach_of_spec : {M : Type 1} → statement M
 reach_of_spec = tie.close (tie.spec returns (λ c κs. search rules) (λ c. search rules) returns-2 returns-3)
-

@@ -1,6 +1,5 @@
 -- `printing::print`: in a turn there is a piece to ask for, and the row then holds it too.
 use Rattle.std.proofs.Common.{arith, refl, sym, ◌∙◌, ap, ℕ, ◌+◌, ◌<◌, ◌≡◌, List, [], length, get_or, take, add-one, true≢false, rules}
-use Rattle.std.proofs.Math.Dec.{ltb}
 use borrow.Author.Tests.{lt-ltb, ltb-true, ltb-false, not-true}
 use Rattle.tree.specs.Bytes.{wrote}
 use Rattle.report.specs.Printed.{pieces}

@@ -31,4 +31,3 @@ print_next_spec =
     add-t11
     (λ c. search rules)
     returns)
-

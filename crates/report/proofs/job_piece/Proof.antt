@@ -30,4 +30,3 @@ job_piece_spec =
     returns
     (λ c. search rules)
     returns-2)
-

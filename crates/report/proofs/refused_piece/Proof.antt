@@ -28,4 +28,3 @@ pub refused_piece_spec : {M : Type 1} → statement M
 refused_piece_spec =
     tie.close
     (tie.spec returns (λ c κs. omega (arith, c.requires)) (λ c. search rules) returns-2)
-

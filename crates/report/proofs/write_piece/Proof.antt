@@ -52,4 +52,3 @@ write_piece_spec =
     returns
     (λ c. search rules)
     returns-2)
-

@@ -46,4 +46,3 @@ line_end_spec =
     loop-less
     loop-again
     returns-2)
-

@@ -67,4 +67,3 @@ number_at_spec =
     loop-less
     loop-again
     returns-3)
-

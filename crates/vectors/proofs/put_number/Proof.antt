@@ -30,4 +30,3 @@ pub put_number_spec : {M : Type 1} → statement M
 put_number_spec =
     tie.close
     (tie.spec returns returns-2 cast-job slice-write-job add-result same_length returns-3)
-

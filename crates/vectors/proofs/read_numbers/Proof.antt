@@ -55,4 +55,3 @@ read_numbers_spec =
     loop-again
     same-length-2
     returns-2)
-

@@ -47,4 +47,3 @@ run_spec =
     same_length
     same-length-2
     returns)
-

@@ -37,4 +37,3 @@ checked_spec =
     returns
     returns-2
     returns-3)
-

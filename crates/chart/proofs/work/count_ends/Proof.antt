@@ -50,4 +50,3 @@ count_ends_spec =
     (λ c. search rules) (λ c. search rules)
     loop-again
     returns)
-

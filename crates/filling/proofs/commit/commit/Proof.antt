@@ -64,8 +64,8 @@ loop-again c =
       all_more a.width a.depth a.next.now l.a a.words.now a.depths.now l.words l.depths k.new.words k.new.depths l.changed c.if-commit_rows.changed k.result
           (λ q j h. (entry i.before).requires.0.narrow q j (omega (arith, inside i))) l.invariant.1 k.ensures
           (λ A. elim c.if-commit_rows.branch [
-            then-commit_rows w ↦ rw w.changed-is (λ m. ⊎_elim inl (λ e. inr (e, w.if-commit_rows.true)) ((w.insert-changed.ensures A).0 m), λ s. (w.insert-changed.ensures A).1 (⊎_elim inl (λ e. inr e.0) s))
-          | else-commit_rows w ↦ rw w.changed-is (inl, ⊎_elim (λ m. m) (λ e. absurd (false≢true (sym w.if-commit_rows.false ∙ e.1))))
+            | then-commit_rows w ↦ rw w.changed-is (λ m. ⊎_elim inl (λ e. inr (e, w.if-commit_rows.true)) ((w.insert-changed.ensures A).0 m), λ s. (w.insert-changed.ensures A).1 (⊎_elim inl (λ e. inr e.0) s))
+            | else-commit_rows w ↦ rw w.changed-is (inl, ⊎_elim (λ m. m) (λ e. absurd (false≢true (sym w.if-commit_rows.false ∙ e.1))))
           ]),
     )
 
@@ -90,4 +90,3 @@ commit_spec =
     (λ c. c.loop-a.invariant.1.committed.words_long)
     (λ c. c.loop-a.invariant.1.committed.depths_long)
     returns)
-

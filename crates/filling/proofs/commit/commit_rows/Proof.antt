@@ -75,16 +75,16 @@ loop-again c =
       search rules,
       search rules,
       elim c.if-new-old.branch [
-        then-new-old w ↦
-          rw (w.words-is, w.depths-is, w.gained-is)
-          (joined t (l.q + 1) (omega arith) (omega arith) (set l.words l.q (get_or a.next.now l.q 0)) w.write_depths.new.depths true true
-          (row_new a.width a.depth a.next.now l.q l.words l.depths (omega (arith, (ready t).words_room)) (λ j. (ready t).grows l.q j (omega arith)) w.write_depths.new.depths
-          w.write_depths.ensures w.if-new-old.true)
-          (λ x. inr refl, λ x. refl))
-      | else-new-old w ↦
-          rw (w.words-is, w.depths-is, w.gained-is)
-          (joined t (l.q + 1) (omega arith) (omega arith) l.words l.depths false l.gained
-          (rows_same a.width a.depth a.next.now l.q (l.q + 1) l.words l.depths (λ m k h. let e : m ≡ l.q = omega arith in rw e w.if-new-old.false)) alone)
+        | then-new-old w ↦
+            rw (w.words-is, w.depths-is, w.gained-is)
+            (joined t (l.q + 1) (omega arith) (omega arith) (set l.words l.q (get_or a.next.now l.q 0)) w.write_depths.new.depths true true
+            (row_new a.width a.depth a.next.now l.q l.words l.depths (omega (arith, (ready t).words_room)) (λ j. (ready t).grows l.q j (omega arith)) w.write_depths.new.depths
+            w.write_depths.ensures w.if-new-old.true)
+            (λ x. inr refl, λ x. refl))
+        | else-new-old w ↦
+            rw (w.words-is, w.depths-is, w.gained-is)
+            (joined t (l.q + 1) (omega arith) (omega arith) l.words l.depths false l.gained
+            (rows_same a.width a.depth a.next.now l.q (l.q + 1) l.words l.depths (λ m k h. let e : m ≡ l.q = omega arith in rw e w.if-new-old.false)) alone)
       ],
     )
 
@@ -114,4 +114,3 @@ commit_rows_spec =
     (λ c. c.loop-q.invariant.2.committed.words_long)
     (λ c. c.loop-q.invariant.2.committed.depths_long)
     returns)
-

@@ -64,4 +64,3 @@ write_depths_spec =
     loop-again
     (λ c. c.loop-left.invariant.1)
     returns)
-

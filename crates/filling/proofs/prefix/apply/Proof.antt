@@ -55,4 +55,3 @@ apply_spec =
     (λ c. within c.before.before.before) (λ c. search rules) (λ c. search rules)
     loop-again
     returns)
-

@@ -1,5 +1,4 @@
 -- `filling::prefix::reach` meets its contract. The loop's invariant: the ends are those of the first d symbols. The measure is what is left of the symbols.
-use mathlib.Core.Logic.{⊎_elim}
 use Prim.Native.Nat.{◌+◌, ◌-◌, ◌*◌, ◌≤◌}
 use native.Mathlib.Omega.{arith}
 use lib.ListN.{length, get_or}
@@ -38,8 +37,8 @@ loop-again c =
     let t = c.loop-d-test.true in (
       search rules,
       elim c.if-symbol-lt128.branch [
-        then-symbol-lt128 w ↦ rw w.ends-is (reached_class l.d l.ends w.after_class-ends.result t w.if-symbol-lt128.true l.invariant.1 w.after_class-ends.ensures)
-      | else-symbol-lt128 w ↦ rw w.ends-is (reached_category l.d l.ends w.union-ends.result t w.if-symbol-lt128.false l.invariant.1 w.union-ends.ensures)
+        | then-symbol-lt128 w ↦ rw w.ends-is (reached_class l.d l.ends w.after_class-ends.result t w.if-symbol-lt128.true l.invariant.1 w.after_class-ends.ensures)
+        | else-symbol-lt128 w ↦ rw w.ends-is (reached_category l.d l.ends w.union-ends.result t w.if-symbol-lt128.false l.invariant.1 w.union-ends.ensures)
       ],
     )
 
@@ -64,4 +63,3 @@ reach_spec =
     (λ c. search rules) (λ c. search rules)
     loop-again
     returns-2)
-

@@ -1,7 +1,6 @@
 -- `filling::rounds::apply_rules` meets its contract. The loop's invariant: `next` has gained what the first p rules that are run derive.
 use Prim.Native.Nat.{◌+◌, ◌-◌, ◌≤◌, ◌<◌}
 use mathlib.Core.Path.{◌∙◌}
-use mathlib.Core.Logic.{⊎_elim}
 use native.Mathlib.Omega.{arith}
 use borrow.Author.Rules.{rules}
 use lib.ListN.{get_or}
@@ -59,13 +58,13 @@ again c =
     let k : l.p < e.args.s.rules = omega arith in
     let x = l.invariant.1 e.args.s e.requires.0 in
     elim c.if-masks-p-ne0.branch [
-      then-masks-p-ne0 w ↦
-        rw w.next-is
-        (rules_run l.p _ _ _ _ (rule_is _ _ e.requires.0 l.p _ f k) w.if-masks-p-ne0.true
-        (rule_chart _ _ e.requires.0 l.p _ f k _ _ _)
-        (rw (w.rule_symbols.ensures, w.rule_left-left.ensures) at w.apply.ensures)
-        x)
-    | else-masks-p-ne0 w ↦ rw w.next-is (rules_skip l.p _ w.if-masks-p-ne0.false x)
+      | then-masks-p-ne0 w ↦
+          rw w.next-is
+          (rules_run l.p _ _ _ _ (rule_is _ _ e.requires.0 l.p _ f k) w.if-masks-p-ne0.true
+          (rule_chart _ _ e.requires.0 l.p _ f k _ _ _)
+          (rw (w.rule_symbols.ensures, w.rule_left-left.ensures) at w.apply.ensures)
+          x)
+      | else-masks-p-ne0 w ↦ rw w.next-is (rules_skip l.p _ w.if-masks-p-ne0.false x)
     ]
 
 loop-again : tie.Need-loop-p-preserved invariant-loop-p decreases-loop-p
@@ -92,4 +91,3 @@ apply_rules_spec =
     (λ c. omega arith) (λ c. omega arith)
     loop-again
     returns)
-

@@ -36,4 +36,3 @@ clear_depths_spec =
     loop-again
     (λ c. c.loop-q.invariant.1.long)
     returns)
-

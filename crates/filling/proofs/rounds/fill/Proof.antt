@@ -114,4 +114,3 @@ fill_spec =
     (λ c. some_round c.loop-changed-test.false c.loop-changed.invariant.1.changes)
     (λ c. search rules) (λ c. search rules)
     returns)
-

@@ -44,4 +44,3 @@ class_places_spec =
     (λ c. token c.before.before) (λ c. search rules) (λ c. search rules)
     loop-again
     returns)
-

@@ -2,7 +2,6 @@
 use borrow.Author.Rules.{rules}
 use Prim.Native.Nat.{◌-◌, ◌≤◌, ◌<◌}
 use mathlib.Core.Path.{◌≡◌}
-use mathlib.Core.Logic.{⊎_elim}
 use native.Mathlib.Nat.{pos_of_ne-zero}
 use native.Mathlib.Omega.{arith}
 use lib.ListN.{length, get_or}
@@ -29,8 +28,8 @@ loop-again c =
     let l = c.loop-d in (
       omega arith,
       elim c.if-symbol-ge128.branch [
-        then-symbol-ge128 w ↦ rw w.mask-is (mask_more _ l.d l.mask _ w.if-symbol-ge128.true w.insert-mask.ensures l.invariant.1)
-      | else-symbol-ge128 w ↦ rw w.mask-is (mask_skip _ l.d l.mask w.if-symbol-ge128.false l.invariant.1)
+        | then-symbol-ge128 w ↦ rw w.mask-is (mask_more _ l.d l.mask _ w.if-symbol-ge128.true w.insert-mask.ensures l.invariant.1)
+        | else-symbol-ge128 w ↦ rw w.mask-is (mask_skip _ l.d l.mask w.if-symbol-ge128.false l.invariant.1)
       ],
     )
 
@@ -58,4 +57,3 @@ mask_of_spec =
     (λ c κs. search rules)
     returns
     returns-2)
-

@@ -69,4 +69,3 @@ rule_masks_spec =
     (λ c. omega arith)
     loop-again
     returns)
-

@@ -38,4 +38,3 @@ digit_count_spec =
     (λ c. omega (arith, c.loop-rest.invariant.1)) (λ c. omega arith)
     loop-again
     returns)
-

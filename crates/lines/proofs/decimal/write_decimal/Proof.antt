@@ -70,4 +70,3 @@ write_decimal_spec =
     (λ c. let l = c.loop-rest in omega (arith, l.invariant.1, l.invariant.2))
     (λ c. rw length-set c.loop-rest.invariant.2)
     returns)
-

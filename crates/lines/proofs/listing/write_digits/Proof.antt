@@ -67,4 +67,3 @@ write_digits_spec =
     (λ c. search rules)
     same_length
     returns)
-

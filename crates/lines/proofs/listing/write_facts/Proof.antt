@@ -70,4 +70,3 @@ write_facts_spec =
     loop-again
     same_length
     returns)
-

@@ -1,5 +1,5 @@
 -- `lines::listing::write_nodes`: each node's line is short, and is written behind those before it.
-use Rattle.std.proofs.Common.{arith, ℕ, ◌+◌, ◌*◌, ◌<◌, ◌≤◌, ◌≡◌, List, length, get_or, sym}
+use Rattle.std.proofs.Common.{arith, ℕ, ◌<◌, ◌≡◌, sym}
 use Rattle.lines.specs.Lines.{text, line_of, numbered}
 use Rattle.lines.specs.inner.Listing.{node_line_at}
 use Rattle.lines.proofs.WriteLaws.{gather_none, gather_few, gather_room, gather_more}

@@ -10,4 +10,3 @@ returns c = stored_byte _ _ _ (omega (arith, c.requires))
 
 pub write_byte_spec : {M : Type 1} → statement M
 write_byte_spec = tie.close (tie.spec (λ c. search rules) (λ c. search rules) (λ c. search rules) returns)
-

@@ -55,4 +55,3 @@ write_bytes_spec =
     (λ c. search rules)
     same_length
     returns)
-

@@ -42,4 +42,3 @@ write_line_spec =
     (λ c κs. omega (arith, room (word c.before.before.before).before))
     (λ c. search rules)
     returns)
-

@@ -68,4 +68,3 @@ write_numbers_spec =
     loop-again
     (λ c. long c.before)
     returns)
-

@@ -73,4 +73,3 @@ read_job_spec =
     returns-5
     returns-6
     returns-7)
-

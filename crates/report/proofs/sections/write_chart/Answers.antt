@@ -1,5 +1,5 @@
 -- `report::sections::write_chart`: the line of rounds and facts, and the lines of facts read off the depths.
-use Rattle.std.proofs.Common.{arith, ℕ, ◌≤◌, ◌≡◌, sym, ◌∙◌, length}
+use Rattle.std.proofs.Common.{arith, ℕ, ◌≡◌, sym, ◌∙◌}
 use Rattle.std.proofs.lemmas.List.{length-replicate}
 use Rattle.derivation.specs.computed.RoundsOf.{rounds_of}
 use Rattle.derivation.specs.computed.FactCount.{fact_count}

@@ -41,4 +41,3 @@ write_marked_spec =
     write-marks-requires
     (λ c. search rules)
     returns)
-

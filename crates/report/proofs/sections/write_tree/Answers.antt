@@ -1,5 +1,5 @@
 -- `report::sections::write_tree`: the question's line, and then its nodes or the refusal.
-use Rattle.std.proofs.Common.{arith, sym, ◌≤◌, length, append-nil}
+use Rattle.std.proofs.Common.{arith, sym, append-nil}
 use mathlib.Core.List.{flatten}
 use Rattle.lines.specs.Lines.{text, line_of, numbered}
 use Rattle.lines.proofs.WriteLaws.{stored_then}
