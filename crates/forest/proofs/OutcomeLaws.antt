@@ -1,5 +1,5 @@
--- The outcome of the question, from the plan.
-use Prim.Native.Nat.{ℕ, ◌<◌}
+-- What is asked of the writing, and the outcome of the question, from the plan.
+use Prim.Native.Nat.{ℕ, ◌≤◌, ◌<◌}
 use mathlib.Core.Path.{◌≡◌, sym, ap, ap₂, ◌∙◌}
 use mathlib.Core.List.{List, [], ◌∷◌, ◌++◌, map}
 use native.Mathlib.Nat.{le_of_eq}
@@ -21,7 +21,7 @@ use Rattle.forest.specs.declared.Plan.{Plan}
 use Rattle.forest.specs.Told.{forest_told}
 use Rattle.forest.specs.inner.Planned.{Planned}
 use Rattle.forest.specs.inner.Planned as planned
-use Rattle.forest.specs.inner.Writing.{written_from}
+use Rattle.forest.specs.inner.Writing.{written_from, Writes}
 use Rattle.forest.specs.Record.{record_of}
 use Rattle.forest.specs.Outcome.{ForestOutcome}
 use Rattle.forest.specs.Outcome as outcome
@@ -32,6 +32,19 @@ all_written [] n from e h = ap (λ (k : ℕ). take k from) e
 all_written (b ∷ l) n from e h =
     let same = h (omega arith) in
     ap (take n) same ∙ take_all n (map record_of (b ∷ l)) (le_of_eq (length-map (b ∷ l) record_of ∙ sym e))
+
+module _ (g line words depths : List ℕ) (room : ℕ) (words' depths' : List ℕ) (plan : Plan) where
+  pub plan_fits : Planned g line words depths room words' depths' plan → plan.n ≤ room
+  plan_fits (planned.turned_down e z a w d) = omega arith
+  plan_fits (planned.no_room e l z a f) = omega arith
+  plan_fits (planned.ready e fits z a f h) = omega arith
+
+  pub plan_writes : Planned g line words depths room words' depths' plan → 0 < plan.n → Writes g line words' plan.first plan.n
+  plan_writes (planned.turned_down e z a w d) some = absurd (omega arith)
+  plan_writes (planned.no_room e l z a f) some = absurd (omega arith)
+  plan_writes (planned.ready e fits z a f h) some =
+      let first = h (omega arith) in
+      record { charted = first.charted; stood = first.stood; enough = le_of_eq (z ∙ ap (λ (k : List derivation.BranchValue). length k) first.all) }
 
 module _ (g line words depths : List ℕ) (rows : List Branch) (words' depths' : List ℕ) (rows' : List Branch) (plan : Plan) where
   -- no record is written

@@ -4,7 +4,7 @@ use mathlib.Core.Path.{◌≡◌, refl, sym, ap, ◌∙◌}
 use mathlib.Core.Logic.{inl, inr}
 use mathlib.Core.List.{List, [], ◌∷◌, ◌++◌, append_assoc}
 use native.Mathlib.Omega.{arith}
-use lib.ListN.{length, get_or, set, take, drop, length-drop, length-map, get_or-map, length-append}
+use lib.ListN.{length, get_or, set, take, drop, length-set, length-drop, length-map, get_or-map, length-append}
 use lib.Seq.{set_at, drop-cons, take-suc}
 use Rattle.derivation.specs.Branch as derivation
 use Rattle.grammar.specs.Given.{grammar_given}
@@ -20,6 +20,11 @@ use Rattle.forest.specs.Record.{record_of}
 unfoldable pub laid : List Branch → Branch → ℕ → List Branch → List Branch
 laid l x zero ys = ys
 laid l x (suc i) ys = set (laid l x i ys) i (get_or l i x)
+
+pub length_laid : (l : List Branch) (x : Branch) (i : ℕ) (ys : List Branch) → length (laid l x i ys) ≡ length ys
+unfolding laid
+length_laid l x zero ys = refl
+length_laid l x (suc i) ys = length-set (laid l x i ys) i (get_or l i x) ∙ length_laid l x i ys
 
 length_first : (l : List Branch) (x : Branch) (i : ℕ) → i ≤ length l → length (take i l) ≡ i
 length_first l x zero h = refl

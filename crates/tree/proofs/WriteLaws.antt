@@ -103,6 +103,10 @@ module _ (G : Grammar) (line : List ℕ) (h : ℕ) (symbols : List ℕ) (end : �
   pub turn_begin : WriteTurn G line h symbols end out₀ place₀ (bytes children) 0 i place₀ out₀
   turn_begin = write_begin G line h symbols end out₀ place₀ children children_fit i refl
 
+  -- what is written leaves the row its length
+  pub turn_long : {d m place : ℕ} {out : List ℕ} → WriteTurn G line h symbols end out₀ place₀ (bytes children) d m place out → length out ≡ length row
+  turn_long turn = write_long G line h symbols end out₀ place₀ children children_fit turn ∙ ap length o ∙ length_wrote row at (node_bytes root) (root_room row at root children nodes e fits)
+
   module _ (d m x place : ℕ) (out : List ℕ) (l : d < length symbols) (n : NextChild G line h symbols end d m x) (turn : WriteTurn G line h symbols end out₀ place₀ (bytes children) d m place out) where
     pub token_room : get_or symbols d 0 < 128 → place + 4 ≤ length out
     unfolding bytes
