@@ -80,7 +80,7 @@ module _ (G : Grammar) (g starts line words depths : List ℕ) (s : Searchable G
             let least = rule_least G line s.proper (depth - 1) A i j p rule_inside (sym left_is ∙ l) (rw symbols_are at v) in
             record { rule = omega (arith, low, least); division = rw symbols_are at x }
 
--- of symbols, the ends of the first d are chosen, the last of them m; noEnd where there is none
+-- of symbols, the ends of the first d are chosen, the last of them m; `no_end` where there is none
 pub record SearchTurn (G : Grammar) (line : List ℕ) (h : ℕ) (symbols : List ℕ) (i j : ℕ) (ends : List ℕ) (m d : ℕ) : Type 0 where
   pub low : d ≤ length symbols
   pub after : i ≤ m

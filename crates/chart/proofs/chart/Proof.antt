@@ -33,30 +33,30 @@ filled c = c.before.before.before.before
 abbrev asked : tie.After-fill-rounds → tie.In-Accepted
 asked c = c.before.before.before
 
-returns : tie.Need-returns-in-Refused
-returns c =
+returns-in-Refused : tie.Need-returns-in-Refused
+returns-in-Refused c =
     let checks = c.before in
     let a = (origin checks).args in
     chart_turned _ _ _ _ _ (checked_refused a.g.now a.line.now Nothing a.words.now a.depths.now Passed Passed _ (sym c.checked.ensures ∙ c.in-Refused.is))
 
-count-ends-requires : tie.Need-count_ends-facts-requires
-count-ends-requires c κs =
+count_ends-facts-requires : tie.Need-count_ends-facts-requires
+count_ends-facts-requires c κs =
     let f = filled c.before in
     (le_trans (memory_is (passes (asked f))).0 (le_of_eq (sym f.fill-rounds.ensures.work.words_long)), small (asked f))
 
-returns-2 : tie.Need-returns
-returns-2 c = let f = filled c.before.before in chart_filled _ _ _ _ _ _ _ _ _ (passes (asked f)) f.fill-rounds.ensures c.count_ends-facts.ensures
+returns : tie.Need-returns
+returns c = let f = filled c.before.before in chart_filled _ _ _ _ _ _ _ _ _ (passes (asked f)) f.fill-rounds.ensures c.count_ends-facts.ensures
 
 pub chart_spec : {M : Type 1} → statement M
 chart_spec =
     tie.close
     (tie.spec
     (λ c κs. search rules) (λ c. search rules)
-    returns
+    returns-in-Refused
     (λ c. search rules)
     (λ c κs. fillable (passes c.before.before))
     (λ c. search rules)
     (λ c. omega (arith, small (asked (filled c.before))))
-    count-ends-requires
+    count_ends-facts-requires
     (λ c. search rules) (λ c. search rules)
-    returns-2)
+    returns)

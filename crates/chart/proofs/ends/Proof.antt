@@ -43,21 +43,21 @@ filled c = c.before.before.before.before
 abbrev asked : tie.After-fill → tie.In-Accepted
 asked c = c.before.before.before
 
-returns : tie.Need-returns-in-Refused
-returns c =
+returns-in-Refused : tie.Need-returns-in-Refused
+returns-in-Refused c =
     let checks = c.before in
     let a = (origin checks).args in
     let asked = Start a.category a.start in
     ends_turned _ _ _ _ _ _ _ (checked_refused a.g.now a.line.now asked a.words.now a.depths.now Passed Passed _ (sym c.checked.ensures ∙ c.in-Refused.is))
 
-slice-read-row : tie.Need-bounds-words-category
-slice-read-row c =
+bounds-words-category : tie.Need-bounds-words-category
+bounds-words-category c =
     let f = filled c.before in
     let s = asked f in
     omega (arith, in_chart s, (memory_is (passes s)).0, f.fill.ensures.work.words_long)
 
-returns-2 : tie.Need-returns
-returns-2 c =
+returns : tie.Need-returns
+returns c =
     let f = filled c.before.before.before in
     let s = asked f in
     let i = inside s in
@@ -68,13 +68,13 @@ ends_spec =
     tie.close
     (tie.spec
     (λ c κs. search rules) (λ c. search rules)
-    returns
+    returns-in-Refused
     (λ c. search rules)
     (λ c κs. fillable (passes c.before.before))
     (λ c. search rules)
     (λ c. omega (arith, small (asked (filled c))))
     (λ c. omega (arith, small (asked (filled c))))
     (λ c. omega (arith, small (asked (filled c))))
-    slice-read-row
+    bounds-words-category
     (λ c κs. search rules) (λ c κs. search rules) (λ c. search rules) (λ c. search rules)
-    returns-2)
+    returns)

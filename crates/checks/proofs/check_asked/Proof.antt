@@ -5,11 +5,11 @@ use Rattle.checks.specs.Question.{asked_check}
 use Rattle.checks.proofs.check_asked.Statement.{statement}
 use Rattle.checks.proofs.check_asked.Tie as tie
 
-returns-2 : tie.Need-returns-in-Start
-returns-2 c = c.check_start.ensures ∙ sym (ap (asked_check _ _) c.in-Start.is)
+returns-in-Start : tie.Need-returns-in-Start
+returns-in-Start c = c.check_start.ensures ∙ sym (ap (asked_check _ _) c.in-Start.is)
 
-returns-3 : tie.Need-returns-in-Span
-returns-3 c = c.check_span.ensures ∙ sym (ap (asked_check _ _) c.in-Span.is)
+returns-in-Span : tie.Need-returns-in-Span
+returns-in-Span c = c.check_span.ensures ∙ sym (ap (asked_check _ _) c.in-Span.is)
 
 pub check_asked_spec : {M : Type 1} → statement M
 check_asked_spec =
@@ -17,5 +17,5 @@ check_asked_spec =
     (tie.spec
     (λ c. search rules) (λ c. search rules) (λ c κs. search rules) (λ c. search rules) (λ c κs. search rules)
     (λ c. search rules)
-    returns-2
-    returns-3)
+    returns-in-Start
+    returns-in-Span)

@@ -7,11 +7,11 @@ use Rattle.checks.proofs.Laws.{chart_small, too_small, large_enough}
 use Rattle.checks.proofs.check_chart.Statement.{statement}
 use Rattle.checks.proofs.check_chart.Tie as tie
 
-returns : tie.Need-returns-then-words-categories
-returns c = let a = c.args in sym (too_small (chart_size a.categories a.n) _ _ c.if-words-categories.true)
+returns-then-words-categories : tie.Need-returns-then-words-categories
+returns-then-words-categories c = let a = c.args in sym (too_small (chart_size a.categories a.n) _ _ c.if-words-categories.true)
 
-returns-2 : tie.Need-returns
-returns-2 c = let a = c.args in sym (large_enough (chart_size a.categories a.n) _ _ c.if-words-categories.false)
+returns : tie.Need-returns
+returns c = let a = c.args in sym (large_enough (chart_size a.categories a.n) _ _ c.if-words-categories.false)
 
 pub check_chart_spec : {M : Type 1} → statement M
 check_chart_spec =
@@ -19,5 +19,5 @@ check_chart_spec =
     (tie.spec
     (λ c. search rules)
     (λ c. omega (arith, chart_small _ _ c.requires.0 c.requires.1))
-    returns
-    returns-2)
+    returns-then-words-categories
+    returns)

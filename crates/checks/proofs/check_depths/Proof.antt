@@ -7,11 +7,11 @@ use Rattle.checks.proofs.Laws.{chart_small, depths_small, too_small, large_enoug
 use Rattle.checks.proofs.check_depths.Statement.{statement}
 use Rattle.checks.proofs.check_depths.Tie as tie
 
-returns : tie.Need-returns-then-numbers-categories
-returns c = let a = c.args in sym (too_small (depths_size a.categories a.n) _ _ c.if-numbers-categories.true)
+returns-then-numbers-categories : tie.Need-returns-then-numbers-categories
+returns-then-numbers-categories c = let a = c.args in sym (too_small (depths_size a.categories a.n) _ _ c.if-numbers-categories.true)
 
-returns-2 : tie.Need-returns
-returns-2 c = let a = c.args in sym (large_enough (depths_size a.categories a.n) _ _ c.if-numbers-categories.false)
+returns : tie.Need-returns
+returns c = let a = c.args in sym (large_enough (depths_size a.categories a.n) _ _ c.if-numbers-categories.false)
 
 pub check_depths_spec : {M : Type 1} → statement M
 check_depths_spec =
@@ -21,5 +21,5 @@ check_depths_spec =
     (λ c. omega (arith, chart_small _ _ c.requires.0 c.requires.1))
     (λ c. search rules)
     (λ c. omega (arith, depths_small _ _ c.requires.0 c.requires.1))
-    returns
-    returns-2)
+    returns-then-numbers-categories
+    returns)

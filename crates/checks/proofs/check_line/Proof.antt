@@ -15,21 +15,21 @@ invariant-loop-token classes line token₀ token = (token ≤ length line) × (t
 abbrev decreases-loop-token : tie.decreases-loop-token
 decreases-loop-token classes line token₀ token = length line - token
 
-loop-holds : tie.Need-loop-token-init invariant-loop-token decreases-loop-token
-loop-holds c = (omega arith, sym (line_short _ _ (omega arith)))
+loop-token-init : tie.Need-loop-token-init invariant-loop-token decreases-loop-token
+loop-token-init c = (omega arith, sym (line_short _ _ (omega arith)))
 
-returns-2 : tie.Need-returns-then-classes-line invariant-loop-token decreases-loop-token
-returns-2 c =
+returns-then-classes-line : tie.Need-returns-then-classes-line invariant-loop-token decreases-loop-token
+returns-then-classes-line c =
     let l = c.loop-token in
     sym (tokens_bad _ _ l.token c.loop-token-test.true c.if-classes-line.true) ∙ l.invariant.1
 
-loop-again : tie.Need-loop-token-preserved invariant-loop-token decreases-loop-token
-loop-again c =
+loop-token-preserved : tie.Need-loop-token-preserved invariant-loop-token decreases-loop-token
+loop-token-preserved c =
     let l = c.loop-token in
     (omega arith, sym (tokens_more _ _ l.token c.loop-token-test.true c.if-classes-line.false) ∙ l.invariant.1)
 
-returns-3 : tie.Need-returns invariant-loop-token decreases-loop-token
-returns-3 c = sym (tokens_none _ _ _ c.loop-token-test.false) ∙ c.loop-token.invariant.1
+returns : tie.Need-returns invariant-loop-token decreases-loop-token
+returns c = sym (tokens_none _ _ _ c.loop-token-test.false) ∙ c.loop-token.invariant.1
 
 pub check_line_spec : {M : Type 1} → statement M
 check_line_spec =
@@ -38,10 +38,10 @@ check_line_spec =
     invariant-loop-token
     decreases-loop-token
     (λ c. sym (line_long _ _ (omega arith)))
-    loop-holds
+    loop-token-init
     (λ c. search rules)
     (λ c. omega (arith, c.shared_slice_known-1.given c.loop-token.token))
-    returns-2
+    returns-then-classes-line
     (λ c. search rules) (λ c. search rules)
-    loop-again
-    returns-3)
+    loop-token-preserved
+    returns)

@@ -5,19 +5,19 @@ use Rattle.checks.proofs.Laws.{line_passed}
 use Rattle.checks.proofs.check_rest.Statement.{statement}
 use Rattle.checks.proofs.check_rest.Tie as tie
 
-returns : tie.Need-returns-in-Refused
-returns c = simp (sym c.check_line.ensures ∙ c.in-Refused.is)
+returns-in-Refused : tie.Need-returns-in-Refused
+returns-in-Refused c = simp (sym c.check_line.ensures ∙ c.in-Refused.is)
 
-check-work-requires : tie.Need-check_work-requires
-check-work-requires c κs =
+check_work-requires : tie.Need-check_work-requires
+check_work-requires c κs =
     (search rules, ((line_passed _ _).0 (sym c.check_line.ensures ∙ c.in-Passed.is)).short)
 
-returns-2 : tie.Need-returns-in-Refused-check_asked
-returns-2 c =
+returns-in-Refused-check_asked : tie.Need-returns-in-Refused-check_asked
+returns-in-Refused-check_asked c =
     simp (sym c.check_line.ensures ∙ c.in-Passed.is, sym c.check_asked.ensures ∙ c.in-Refused-check_asked.is)
 
-returns-3 : tie.Need-returns-in-Passed-check_asked
-returns-3 c =
+returns-in-Passed-check_asked : tie.Need-returns-in-Passed-check_asked
+returns-in-Passed-check_asked c =
     c.check_work.ensures ∙ simp (sym c.check_line.ensures ∙ c.in-Passed.is, sym c.check_asked.ensures ∙ c.in-Passed-check_asked.is)
 
 pub check_rest_spec : {M : Type 1} → statement M
@@ -25,8 +25,8 @@ check_rest_spec =
     tie.close
     (tie.spec
     (λ c κs. search rules) (λ c. search rules)
-    returns
+    returns-in-Refused
     (λ c. search rules) (λ c κs. search rules) (λ c. search rules) (λ c. search rules)
-    check-work-requires
-    returns-2
-    returns-3)
+    check_work-requires
+    returns-in-Refused-check_asked
+    returns-in-Passed-check_asked)

@@ -6,22 +6,22 @@ use Rattle.checks.specs.Question.{span_check}
 use Rattle.checks.proofs.check_span.Statement.{statement}
 use Rattle.checks.proofs.check_span.Tie as tie
 
-returns : tie.Need-returns-in-Refused
+returns-in-Refused : tie.Need-returns-in-Refused
 unfolding span_check
-returns c = simp (sym c.check_start.ensures ∙ c.in-Refused.is)
+returns-in-Refused c = simp (sym c.check_start.ensures ∙ c.in-Refused.is)
 
-returns-2 : tie.Need-returns-then-n-end
+returns-then-n-end : tie.Need-returns-then-n-end
 unfolding span_check
-returns-2 c = simp (sym c.check_start.ensures ∙ c.in-Passed.is, lt-ltb _ _ c.if-n-end.true)
+returns-then-n-end c = simp (sym c.check_start.ensures ∙ c.in-Passed.is, lt-ltb _ _ c.if-n-end.true)
 
-returns-3 : tie.Need-returns-then-end-start
+returns-then-end-start : tie.Need-returns-then-end-start
 unfolding span_check
-returns-3 c =
+returns-then-end-start c =
     simp (sym c.check_start.ensures ∙ c.in-Passed.is, le-ltb _ _ c.if-n-end.false, lt-ltb _ _ c.if-end-start.true)
 
-returns-4 : tie.Need-returns
+returns : tie.Need-returns
 unfolding span_check
-returns-4 c =
+returns c =
     simp (sym c.check_start.ensures ∙ c.in-Passed.is, le-ltb _ _ c.if-n-end.false, le-ltb _ _ c.if-end-start.false)
 
 pub check_span_spec : {M : Type 1} → statement M
@@ -29,8 +29,8 @@ check_span_spec =
     tie.close
     (tie.spec
     (λ c κs. search rules) (λ c. search rules)
-    returns
+    returns-in-Refused
     (λ c. search rules)
-    returns-2
-    returns-3
-    returns-4)
+    returns-then-n-end
+    returns-then-end-start
+    returns)

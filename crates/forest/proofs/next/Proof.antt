@@ -19,52 +19,52 @@ module _ {g line words : List ℕ} {c : Cursor} (s : Charted g line words × Sto
   long : length (standing g c.at).right ≤ 8
   long = (rule_within g line words s.0 c.at (c.branch.rule, s.1.rule)).long
 
-  middle-inside : c.branch.middle ≤ length line
-  middle-inside = (children_inside ((s.1.middles c.branch.middle).0 s.1.middle)).ends
+  middle_inside : c.branch.middle ≤ length line
+  middle_inside = (children_inside ((s.1.middles c.branch.middle).0 s.1.middle)).ends
 
-cast-start : tie.Need-overflow_cast-start
-cast-start c = let s = c.requires in omega (arith, s.1.start, s.0.is_line.short)
+overflow_cast-start : tie.Need-overflow_cast-start
+overflow_cast-start c = let s = c.requires in omega (arith, s.1.start, s.0.is_line.short)
 
 stand-requires : tie.Need-stand-requires
 stand-requires c κs =
     let s = c.requires in
-    (omega (arith, s.1.rule.below, rules_few _ _ _ s.0), omega (arith, s.1.first, s.1.last, long s), omega (arith, s.1.start, s.0.is_line.short), omega (arith, middle-inside s, s.0.is_line.short), omega (arith, c.if-ends-ne0.true))
+    (omega (arith, s.1.rule.below, rules_few _ _ _ s.0), omega (arith, s.1.first, s.1.last, long s), omega (arith, s.1.start, s.0.is_line.short), omega (arith, middle_inside s, s.0.is_line.short), omega (arith, c.if-ends-ne0.true))
 
-returns : tie.Need-returns-then-ends-ne0
-returns c = let s = c.requires in next_end _ _ _ s.0 _ s.1 _ c.stand.ensures
+returns-then-ends-ne0 : tie.Need-returns-then-ends-ne0
+returns-then-ends-ne0 c = let s = c.requires in next_end _ _ _ s.0 _ s.1 _ c.stand.ensures
 
-add-seek-middle : tie.Need-overflow_add-middle
-add-seek-middle c = let s = c.requires in omega (arith, middle-inside s, s.0.is_line.short)
+overflow_add-middle : tie.Need-overflow_add-middle
+overflow_add-middle c = let s = c.requires in omega (arith, middle_inside s, s.0.is_line.short)
 
-seek-middle-requires : tie.Need-seek_middle-spot-requires
-seek-middle-requires c κs = let s = c.requires in (s.0, (_, s.1.rule), symbol_inside _ _ _ s.0 _ s.1, omega (arith, middle-inside s))
+seek_middle-spot-requires : tie.Need-seek_middle-spot-requires
+seek_middle-spot-requires c κs = let s = c.requires in (s.0, (_, s.1.rule), symbol_inside _ _ _ s.0 _ s.1, omega (arith, middle_inside s))
 
-stand-requires-2 : tie.Need-stand-requires-then-found-ne0
-stand-requires-2 c κs =
+stand-requires-then-found-ne0 : tie.Need-stand-requires-then-found-ne0
+stand-requires-then-found-ne0 c κs =
     let s = c.requires in
     let some : 0 < c.seek_middle-spot.result.ends = omega (arith, c.if-found-ne0.true) in
     (omega (arith, s.1.rule.below, rules_few _ _ _ s.0), omega (arith, s.1.first, s.1.last, long s), omega (arith, s.1.start, s.0.is_line.short), omega (arith, (c.seek_middle-spot.ensures.found some).0, s.0.is_line.short), some)
 
-returns-2 : tie.Need-returns-then-found-ne0
-returns-2 c =
+returns-then-found-ne0 : tie.Need-returns-then-found-ne0
+returns-then-found-ne0 c =
     let s = c.requires in
     next_middle _ _ _ s.0 _ s.1 c.if-ends-ne0.false _ c.seek_middle-spot.ensures (omega (arith, c.if-found-ne0.true)) _ c.stand-then-found-ne0.ensures
 
-add-seek-record : tie.Need-overflow_add-start
-add-seek-record c = let s = c.requires in omega (arith, s.1.start, s.0.is_line.short)
+overflow_add-start : tie.Need-overflow_add-start
+overflow_add-start c = let s = c.requires in omega (arith, s.1.start, s.0.is_line.short)
 
-seek-record-requires : tie.Need-seek_record-requires
-seek-record-requires c κs =
+seek_record-requires : tie.Need-seek_record-requires
+seek_record-requires c κs =
     let s = c.requires in
     (s.0, omega (arith, s.1.rule.below), s.1.rule.found.place, omega (arith, s.1.first, s.1.last, long s), omega (arith, s.1.start))
 
-returns-3 : tie.Need-returns-in-At
-returns-3 c =
+returns-in-At : tie.Need-returns-in-At
+returns-in-At c =
     let s = c.requires in
     next_later _ _ _ s.0 _ s.1 c.if-ends-ne0.false _ c.seek_middle-spot.ensures c.if-found-ne0.false _ (rw c.in-At.is at c.seek_record.ensures)
 
-returns-4 : tie.Need-returns-in-Nowhere
-returns-4 c =
+returns-in-Nowhere : tie.Need-returns-in-Nowhere
+returns-in-Nowhere c =
     let s = c.requires in
     next_none _ _ _ s.0 _ s.1 c.if-ends-ne0.false _ c.seek_middle-spot.ensures c.if-found-ne0.false (rw c.in-Nowhere.is at c.seek_record.ensures)
 
@@ -75,16 +75,16 @@ next_spec =
     (λ c. let s = c.requires in omega (arith, s.1.rule.below, rules_few _ _ _ s.0))
     (λ c. let s = c.requires in omega (arith, s.1.last, long s))
     (λ c. c.requires.1.first)
-    cast-start
-    (λ c. let s = c.requires in omega (arith, middle-inside s, s.0.is_line.short))
+    overflow_cast-start
+    (λ c. let s = c.requires in omega (arith, middle_inside s, s.0.is_line.short))
     stand-requires
-    returns
-    add-seek-middle
-    seek-middle-requires
-    stand-requires-2
-    returns-2
-    add-seek-record
-    seek-record-requires
+    returns-then-ends-ne0
+    overflow_add-middle
+    seek_middle-spot-requires
+    stand-requires-then-found-ne0
+    returns-then-found-ne0
+    overflow_add-start
+    seek_record-requires
     (λ c. search rules) (λ c. search rules)
-    returns-3
-    returns-4)
+    returns-in-At
+    returns-in-Nowhere)

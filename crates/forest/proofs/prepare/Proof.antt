@@ -29,38 +29,38 @@ asked c = c.before.before.before
 abbrev room : tie.After-fill → ℕ
 room c = (origin (asked c).before).args.room
 
-returns : tie.Need-returns-in-Refused
-returns c =
+returns-in-Refused : tie.Need-returns-in-Refused
+returns-in-Refused c =
     let checks = c.before in
     let a = (origin checks).args in
     plan_turned _ _ _ _ _ _ _ (checked_refused a.g.now a.line.now Nothing a.words.now a.depths.now Passed Passed _ (sym c.checked.ensures ∙ c.in-Refused.is))
 
-count-records-requires : tie.Need-count_records-count-requires
-count-records-requires c κs =
+count_records-count-requires : tie.Need-count_records-count-requires
+count_records-count-requires c κs =
     let f = filled c in
     let p = passes (asked f) in
     let work = f.fill.ensures.work in
     (charted _ _ _ _ (room f) _ p _ _ work, sections_are _ _ _ _ (room f) _ p _ _ work)
 
-returns-2 : tie.Need-returns-then-room-count
-returns-2 c =
+returns-then-room-count : tie.Need-returns-then-room-count
+returns-then-room-count c =
     let f = filled c.before.before in
     plan_refused _ _ _ _ (room f) _ (passes (asked f)) _ _ f.fill.ensures.work _ c.count_records-count.ensures _ c.if-room-count.true
 
-seek-record-requires : tie.Need-seek_record-requires
-seek-record-requires c κs =
+seek_record-requires : tie.Need-seek_record-requires
+seek_record-requires c κs =
     let f = filled c.before.before in
     let p = passes (asked f) in
     let work = f.fill.ensures.work in
     (charted _ _ _ _ (room f) _ p _ _ work, omega arith, first_stands _ _ _ _ (room f) _ p _ _ work, omega arith, omega arith)
 
-returns-3 : tie.Need-returns-in-At
-returns-3 c =
+returns-in-At : tie.Need-returns-in-At
+returns-in-At c =
     let f = filled c.before.before.before.before in
     plan_found _ _ _ _ (room f) _ (passes (asked f)) _ _ f.fill.ensures.work _ c.count_records-count.ensures _ c.if-room-count.false (rw c.in-At.is at c.seek_record.ensures)
 
-returns-4 : tie.Need-returns-in-Nowhere
-returns-4 c =
+returns-in-Nowhere : tie.Need-returns-in-Nowhere
+returns-in-Nowhere c =
     let f = filled c.before.before.before.before in
     plan_empty _ _ _ _ (room f) _ (passes (asked f)) _ _ f.fill.ensures.work _ c.count_records-count.ensures _ c.if-room-count.false (rw c.in-Nowhere.is at c.seek_record.ensures)
 
@@ -69,14 +69,14 @@ prepare_spec =
     tie.close
     (tie.spec
     (λ c κs. search rules) (λ c. search rules)
-    returns
+    returns-in-Refused
     (λ c. search rules)
     (λ c κs. fillable (passes c.before.before))
-    count-records-requires
+    count_records-count-requires
     (λ c. search rules) (λ c. search rules)
-    returns-2
-    seek-record-requires
+    returns-then-room-count
+    seek_record-requires
     (λ c. search rules) (λ c. search rules) (λ c. search rules) (λ c. search rules)
-    returns-3
+    returns-in-At
     (λ c. search rules) (λ c. search rules)
-    returns-4)
+    returns-in-Nowhere)

@@ -25,8 +25,8 @@ abbrev entry : tie.In-loop-token invariant-loop-token decreases-loop-token → t
 entry c = c.before.before.before.before.before.before
 
 -- the class of the token is one of the grammar's
-class-below : (c : tie.In-loop-token invariant-loop-token decreases-loop-token) → get_or (entry c).args.line.now c.loop-token.token 0 < (entry c).args.s.classes
-class-below c = (entry c).requires.1.tokens c.loop-token.token c.loop-token-test.true
+class_below : (c : tie.In-loop-token invariant-loop-token decreases-loop-token) → get_or (entry c).args.line.now c.loop-token.token 0 < (entry c).args.s.classes
+class_below c = (entry c).requires.1.tokens c.loop-token.token c.loop-token-test.true
 
 -- the secret spans that begin before the next token
 spans : (c : tie.After-reach_from-reach invariant-loop-token decreases-loop-token) →
@@ -49,21 +49,21 @@ mark c =
           rw w.mark-is (mark_flag t _ (spans c.before) _ c.loop-token-test.true w.if-token-reach.false w.class_flag-mark.ensures.0 w.class_flag-mark.ensures.1)
     ]
 
-loop-holds : tie.Need-loop-token-init invariant-loop-token decreases-loop-token
-loop-holds c = (search rules, spans_none, marked_none)
+loop-token-init : tie.Need-loop-token-init invariant-loop-token decreases-loop-token
+loop-token-init c = (search rules, spans_none, marked_none)
 
-reach-from-requires : tie.Need-reach_from-reach-requires invariant-loop-token decreases-loop-token
-reach-from-requires c κs =
+reach_from-reach-requires : tie.Need-reach_from-reach-requires invariant-loop-token decreases-loop-token
+reach_from-reach-requires c κs =
     let p = (entry c).requires in (p.0, rw (category_count_lem _ _ p.0) at p.2.room, omega arith, omega (arith, p.1.short))
 
-cast-class-flag : tie.Need-overflow_cast-line invariant-loop-token decreases-loop-token
-cast-class-flag c = omega (arith, class-below c.before.before.before, (whole _ _ (entry c.before.before.before).requires.0).classes_high)
+overflow_cast-line : tie.Need-overflow_cast-line invariant-loop-token decreases-loop-token
+overflow_cast-line c = omega (arith, class_below c.before.before.before, (whole _ _ (entry c.before.before.before).requires.0).classes_high)
 
-class-flag-requires : tie.Need-class_flag-mark-requires invariant-loop-token decreases-loop-token
-class-flag-requires c κs = ((entry c.before.before.before).requires.0, class-below c.before.before.before)
+class_flag-mark-requires : tie.Need-class_flag-mark-requires invariant-loop-token decreases-loop-token
+class_flag-mark-requires c κs = ((entry c.before.before.before).requires.0, class_below c.before.before.before)
 
-loop-again : tie.Need-loop-token-preserved invariant-loop-token decreases-loop-token
-loop-again c =
+loop-token-preserved : tie.Need-loop-token-preserved invariant-loop-token decreases-loop-token
+loop-token-preserved c =
     let turn = c.before.before.before in
     let l = c.loop-token in
     let p = (entry turn).requires in (
@@ -82,12 +82,12 @@ mark_tokens_spec =
     invariant-loop-token
     decreases-loop-token
     (λ c. search rules)
-    loop-holds
-    reach-from-requires
+    loop-token-init
+    reach_from-reach-requires
     (λ c. search rules)
-    cast-class-flag
-    class-flag-requires
+    overflow_cast-line
+    class_flag-mark-requires
     (λ c. search rules) (λ c. search rules) (λ c. search rules) (λ c. search rules)
-    loop-again
+    loop-token-preserved
     (λ c. search rules)
     returns)

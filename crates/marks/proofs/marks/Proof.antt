@@ -27,28 +27,28 @@ asked c = c.before.before.before
 abbrev filled : tie.After-slice_known-5-1 → tie.After-fill
 filled c = c.before.before.before.before
 
-returns : tie.Need-returns-in-Refused
-returns c =
+returns-in-Refused : tie.Need-returns-in-Refused
+returns-in-Refused c =
     let checks = c.before in
     let a = (origin checks).args in
     let room = marks_room a.line.now a.marks.now in
     marks_turned _ _ _ _ _ _ (checked_refused a.g.now a.line.now Nothing a.words.now a.depths.now Passed room _ (sym c.checked.ensures ∙ c.in-Refused.is))
 
-returns-2 : tie.Need-returns-then-marks-line
-returns-2 c =
+returns-then-marks-line : tie.Need-returns-then-marks-line
+returns-then-marks-line c =
     let f = filled c.before in
     marks_no_room _ _ _ _ _ _ (passes (asked f)) _ _ c.if-marks-line.true f.fill.ensures.work
 
-mark-tokens-requires : tie.Need-mark_tokens-requires
-mark-tokens-requires c κs =
+mark_tokens-requires : tie.Need-mark_tokens-requires
+mark_tokens-requires c κs =
     let f = filled c.before.before in
     let p = passes (asked f) in
     let w = f.fill.ensures.work in
     let room = le_trans (memory_is p).0 (le_of_eq (sym w.words_long)) in
     (sections p, line_is p, record { room = rw (category_count_lem _ _ (sections p)) room; word = w.word }, c.if-marks-line.false)
 
-returns-3 : tie.Need-returns
-returns-3 c =
+returns : tie.Need-returns
+returns c =
     let f = filled c.before.before.before.before.before in
     marks_answered _ _ _ _ _ _ (passes (asked f)) _ _ _ _ c.if-marks-line.false f.fill.ensures.work c.mark_tokens.ensures
 
@@ -57,11 +57,11 @@ marks_spec =
     tie.close
     (tie.spec
     (λ c κs. search rules) (λ c. search rules)
-    returns
+    returns-in-Refused
     (λ c. search rules)
     (λ c κs. fillable (passes c.before.before))
     (λ c. search rules) (λ c. search rules)
-    returns-2
-    mark-tokens-requires
+    returns-then-marks-line
+    mark_tokens-requires
     (λ c. search rules) (λ c. search rules) (λ c. search rules)
-    returns-3)
+    returns)

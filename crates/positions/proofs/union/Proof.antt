@@ -44,15 +44,15 @@ module _ (c : tie.After-first-m invariant-loop-m decreases-loop-m invariant-loop
   room : (m : ℕ) → Member left m → start.args.base + m < length start.args.rows.now
   room m h = omega (arith, start.requires.1, (bounds m h).1)
 
-  row-leads : (m : ℕ) → Member left m → (j : ℕ) → Member (get_or start.args.rows.now (start.args.base + m) 0) j ↔ RowLeads start.args.rows.now start.args.base start.args.from start.args.width m j
-  row-leads m h j = (λ k. ((bounds m h).0, (bounds m h).1, k), λ p. p.2)
+  row_leads : (m : ℕ) → Member left m → (j : ℕ) → Member (get_or start.args.rows.now (start.args.base + m) 0) j ↔ RowLeads start.args.rows.now start.args.base start.args.from start.args.width m j
+  row_leads m h j = (λ k. ((bounds m h).0, (bounds m h).1, k), λ p. p.2)
 
   -- the member's row is gathered, and those after it are left
   gathers : Gathered (RowLeads start.args.rows.now start.args.base start.args.from start.args.width) (Member start.args.set) (After left c.first-m.result)
       (bit_or c.before.before.loop-left.all (get_or start.args.rows.now (start.args.base + c.first-m.result) 0))
   gathers =
       gathered_more _ _ _ _ c.before.before.loop-left.invariant.1 (After left c.first-m.result) (λ x h. h.0) _ turn.here
-      (λ x h n. let low : x < c.first-m.result → ⊥ = λ l. c.first-m.ensures.none_below x l h in (h, omega arith)) _ (row-leads _ turn.here)
+      (λ x h n. let low : x < c.first-m.result → ⊥ = λ l. c.first-m.ensures.none_below x l h in (h, omega arith)) _ (row_leads _ turn.here)
 
 -- the run that it begins: its members, up to the last
 module _ (c : tie.After-first invariant-loop-m decreases-loop-m invariant-loop-left decreases-loop-left) where
@@ -83,8 +83,8 @@ module _ (c : tie.After-first invariant-loop-m decreases-loop-m invariant-loop-l
 follows : (c : tie.In-loop-m invariant-loop-m decreases-loop-m invariant-loop-left decreases-loop-left) → Member (left (taking c.before.before)) (c.before.loop-m.m + 1)
 follows c = run c.before.before _ (omega (arith, c.before.loop-m.invariant.0)) (omega (arith, c.loop-m-test.true))
 
-loop-holds : tie.Need-loop-left-init invariant-loop-m decreases-loop-m invariant-loop-left decreases-loop-left
-loop-holds c =
+loop-left-init : tie.Need-loop-left-init invariant-loop-m decreases-loop-m invariant-loop-left decreases-loop-left
+loop-left-init c =
     let e = c.before.before in
     let a = e.args in
     let cut = from_member a.set a.from e.ranges.set.fits in
@@ -94,8 +94,8 @@ loop-holds c =
       λ m h. let p = (both m).0 h in (((cut m).0 p.0).1, p.1),
     )
 
-loop-again : tie.Need-loop-left-preserved-then-runs-m-eq0 invariant-loop-m decreases-loop-m invariant-loop-left decreases-loop-left
-loop-again c =
+loop-left-preserved-then-runs-m-eq0 : tie.Need-loop-left-preserved-then-runs-m-eq0 invariant-loop-m decreases-loop-m invariant-loop-left decreases-loop-left
+loop-left-preserved-then-runs-m-eq0 c =
     let f = c.before.before.before in
     let t = turn f in (
       omega (arith, f.before.before.loop-left.invariant.0, t.less),
@@ -104,21 +104,21 @@ loop-again c =
       λ m h. bounds f m ((t.rest m).0 h).0,
     )
 
-loop2-holds : tie.Need-loop-m-init invariant-loop-m decreases-loop-m invariant-loop-left decreases-loop-left
-loop2-holds c = (omega arith, omega (arith, some c), gathers (taking c))
+loop-m-init : tie.Need-loop-m-init invariant-loop-m decreases-loop-m invariant-loop-left decreases-loop-left
+loop-m-init c = (omega arith, omega (arith, some c), gathers (taking c))
 
-loop2-again : tie.Need-loop-m-preserved invariant-loop-m decreases-loop-m invariant-loop-left decreases-loop-left
-loop2-again c =
+loop-m-preserved : tie.Need-loop-m-preserved invariant-loop-m decreases-loop-m invariant-loop-left decreases-loop-left
+loop-m-preserved c =
     let l = c.before.before.loop-m in
     let f = taking c.before.before.before in
     let m = follows c.before in (
       omega (arith, l.invariant.0),
       omega (arith, c.before.loop-m-test.true),
-      gathered_more _ _ _ _ l.invariant.2 (After (left f) (l.m + 1)) (λ x h. (h.0, omega (arith, h.1))) (l.m + 1) (m, omega arith) (λ x h n. (h.0, omega (arith, h.1))) _ (row-leads f _ m),
+      gathered_more _ _ _ _ l.invariant.2 (After (left f) (l.m + 1)) (λ x h. (h.0, omega (arith, h.1))) (l.m + 1) (m, omega arith) (λ x h n. (h.0, omega (arith, h.1))) _ (row_leads f _ m),
     )
 
-loop-again-2 : tie.Need-loop-left-preserved invariant-loop-m decreases-loop-m invariant-loop-left decreases-loop-left
-loop-again-2 c =
+loop-left-preserved : tie.Need-loop-left-preserved invariant-loop-m decreases-loop-m invariant-loop-left decreases-loop-left
+loop-left-preserved c =
     let b = c.before.before in
     let l = c.before.loop-m in
     let f = taking b in
@@ -129,8 +129,8 @@ loop-again-2 c =
       λ m h. bounds f m ((past m).0 h).0,
     )
 
-returns-2 : tie.Need-returns invariant-loop-m decreases-loop-m invariant-loop-left decreases-loop-left
-returns-2 c = union_is _ _ _ _ _ _ (gathered_all _ _ _ _ c.before.loop-left.invariant.1 (λ m h. none_member m (rw c.loop-left-test.false at h)))
+returns : tie.Need-returns invariant-loop-m decreases-loop-m invariant-loop-left decreases-loop-left
+returns c = union_is _ _ _ _ _ _ (gathered_all _ _ _ _ c.before.loop-left.invariant.1 (λ m h. none_member m (rw c.loop-left-test.false at h)))
 
 pub union_spec : {M : Type 1} → statement M
 union_spec =
@@ -142,27 +142,27 @@ union_spec =
     decreases-loop-left
     (λ c. union_none _ _ _ _ _ c.if-width-from.true)
     (λ c. search rules) (λ c. search rules) (λ c. search rules) (λ c. search rules)
-    loop-holds
+    loop-left-init
     (λ c κs. search rules) (λ c. search rules)
     (λ c. omega (arith, room c _ (turn c).here)) (λ c. omega (arith, room c _ (turn c).here))
     (λ c. room c.before _ (turn c.before).here)
     (λ c. (turn c.before.before).small)
     (λ c. (turn c.before.before.before).some)
     (λ c. (turn c.before.before.before).less)
-    loop-again
+    loop-left-preserved-then-runs-m-eq0
     (λ c. (turn c.before.before.before).small)
     (λ c κs. search rules) (λ c. search rules)
     (λ c. omega (arith, low c)) (λ c. omega (arith, some c))
-    loop2-holds
+    loop-m-init
     (λ c. omega (arith, room (taking c.before.before) _ (follows c)))
     (λ c. omega (arith, room (taking c.before.before) _ (follows c)))
     (λ c. omega (arith, room (taking c.before.before) _ (follows c)))
     (λ c. room (taking c.before.before.before) _ (follows c.before))
     (λ c. search rules)
-    loop2-again
+    loop-m-preserved
     (λ c. omega (arith, low c.before.before, some c.before.before))
     (λ c. past_some _ _ (fits c.before.before) (at_last c.before.before))
     (λ c. omega (arith, low c.before.before, some c.before.before))
     (λ c. past_less _ _ (fits c.before.before) (at_last c.before.before))
-    loop-again-2
-    returns-2)
+    loop-left-preserved
+    returns)

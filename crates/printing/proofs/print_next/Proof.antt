@@ -8,14 +8,14 @@ use Rattle.report.proofs.PieceLaws.{pieces_few, yielded_within}
 use Rattle.printing.proofs.print_next.Statement.{statement}
 use Rattle.printing.proofs.print_next.Tie as tie
 
-slice-reshare-prefix-write-all : tie.Need-slice_bounds-write_all-end
-slice-reshare-prefix-write-all c = yielded_within c.write_piece-next.ensures
+slice_bounds-write_all-end : tie.Need-slice_bounds-write_all-end
+slice_bounds-write_all-end c = yielded_within c.write_piece-next.ensures
 
-slice-aggregate-write-all : tie.Need-slice_bounds-write_all-end-2
-slice-aggregate-write-all c = sym (length-take-le _ _ (yielded_within c.write_piece-next.ensures))
+slice_bounds-write_all-end-2 : tie.Need-slice_bounds-write_all-end-2
+slice_bounds-write_all-end-2 c = sym (length-take-le _ _ (yielded_within c.write_piece-next.ensures))
 
-add-t11 : tie.Need-overflow_add-result
-add-t11 c = omega (arith, pieces_few c.args.input.now)
+overflow_add-result : tie.Need-overflow_add-result
+overflow_add-result c = omega (arith, pieces_few c.args.input.now)
 
 returns : tie.Need-returns
 returns c = let piece = c.write_piece-next.ensures in (refl, (rw add-one piece.more, piece.holds))
@@ -25,9 +25,9 @@ print_next_spec =
     tie.close
     (tie.spec
     (λ c κs. search rules)
-    slice-reshare-prefix-write-all
-    slice-aggregate-write-all
+    slice_bounds-write_all-end
+    slice_bounds-write_all-end-2
     (λ c κs. search rules)
-    add-t11
+    overflow_add-result
     (λ c. search rules)
     returns)

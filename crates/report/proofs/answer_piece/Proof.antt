@@ -13,27 +13,27 @@ entry c = c.before.before.before.before
 abbrev later : tie.After-write_tree-arg-1 → tie.Else-number-eq0
 later c = c.before.before.before.before.before.before
 
-returns : tie.Need-returns-then-number-eq0
-returns c =
+returns-then-number-eq0 : tie.Need-returns-then-number-eq0
+returns-then-number-eq0 c =
     let call = c.before.before.before.before.before in
     let a = (entry call).args in
     let e : a.number ≡ 0 = omega arith in
     rw e (piece_stored _ 0 _ (answers_more a.g.now a.line.now a.questions.now 0) _ (first_answer _ _ _) c.write_chart.ensures)
 
-returns-2 : tie.Need-returns-then-number-eq1
-returns-2 c =
+returns-then-number-eq1 : tie.Need-returns-then-number-eq1
+returns-then-number-eq1 c =
     let call = c.before.before.before.before.before.before in
     let a = (entry call).args in
     let e : a.number ≡ 1 = omega arith in
     rw e (piece_stored _ 1 _ (answers_more a.g.now a.line.now a.questions.now 1) _ (second_answer _ _ _) c.write_marked.ensures)
 
-returns-3 : tie.Need-returns-then-count-number
-returns-3 c =
+returns-then-count-number : tie.Need-returns-then-count-number
+returns-then-count-number c =
     let a = (entry c.before.before.before).args in
     piece_none _ a.number _ (answers_more a.g.now a.line.now a.questions.now a.number) (no_answer _ _ _ a.number (omega arith))
 
-returns-4 : tie.Need-returns
-returns-4 c =
+returns : tie.Need-returns
+returns c =
     let a = (entry (later c.before.before.before).before).args in
     piece_stored _ a.number _ (answers_more a.g.now a.line.now a.questions.now a.number) _ (later_answer _ _ _ a.number (omega arith) (omega arith)) c.write_tree-length.ensures
 
@@ -42,11 +42,11 @@ answer_piece_spec =
     tie.close
     (tie.spec
     (λ c. search rules) (λ c κs. search rules) (λ c. search rules)
-    returns
+    returns-then-number-eq0
     (λ c κs. search rules) (λ c. search rules)
-    returns-2
+    returns-then-number-eq1
     (λ c. search rules)
-    returns-3
+    returns-then-count-number
     (λ c. search rules) (λ c. search rules) (λ c. search rules) (λ c. search rules) (λ c. search rules)
     (λ c. search rules) (λ c. search rules) (λ c κs. search rules) (λ c. search rules)
-    returns-4)
+    returns)

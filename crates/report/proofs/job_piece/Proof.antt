@@ -7,17 +7,17 @@ use Rattle.report.proofs.CheckLaws.{job_refused, job_passed}
 use Rattle.report.proofs.job_piece.Statement.{statement}
 use Rattle.report.proofs.job_piece.Tie as tie
 
-answer-piece-requires : tie.Need-answer_piece-requires
-answer-piece-requires c κs = (sym c.checked.ensures ∙ c.in-Accepted.is, search rules)
+answer_piece-requires : tie.Need-answer_piece-requires
+answer_piece-requires c κs = (sym c.checked.ensures ∙ c.in-Accepted.is, search rules)
 
-returns : tie.Need-returns-in-Refused
+returns-in-Refused : tie.Need-returns-in-Refused
 unfolding chart_pieces
-returns c =
+returns-in-Refused c =
     rw (job_refused _ _ _ (sym c.checked.ensures ∙ c.in-Refused.is)) c.refused_piece.ensures
 
-returns-2 : tie.Need-returns-in-Accepted
+returns-in-Accepted : tie.Need-returns-in-Accepted
 unfolding chart_pieces
-returns-2 c =
+returns-in-Accepted c =
     rw (job_passed (checked_accepted _ _ _ _ _ _ (sym c.checked.ensures ∙ c.in-Accepted.is))) c.answer_piece.ensures
 
 pub job_piece_spec : {M : Type 1} → statement M
@@ -25,8 +25,8 @@ job_piece_spec =
     tie.close
     (tie.spec
     (λ c κs. search rules) (λ c. search rules) (λ c κs. search rules) (λ c. search rules)
-    answer-piece-requires
+    answer_piece-requires
     (λ c. search rules)
-    returns
+    returns-in-Refused
     (λ c. search rules)
-    returns-2)
+    returns-in-Accepted)

@@ -12,14 +12,14 @@ use Rattle.report.proofs.PieceLaws.{piece_stored, piece_none, none_after_one}
 use Rattle.report.proofs.refused_piece.Statement.{statement}
 use Rattle.report.proofs.refused_piece.Tie as tie
 
-returns : tie.Need-returns-then-number-ne0
-returns c =
+returns-then-number-ne0 : tie.Need-returns-then-number-ne0
+returns-then-number-ne0 c =
     let a = c.args in
     let past : 0 < a.number = omega arith in
     piece_none (refused_line (row_of a.refusal) ∷ []) a.number false (sym (le-ltb (suc a.number) 1 (omega arith))) (none_after_one (refused_line (row_of a.refusal)) a.number past)
 
-returns-2 : tie.Need-returns
-returns-2 c =
+returns : tie.Need-returns
+returns c =
     let a = c.args in
     let e : a.number ≡ 0 = omega arith in
     rw e (piece_stored (refused_line (row_of a.refusal) ∷ []) 0 false refl (refused_line (row_of a.refusal)) refl c.refused_line.ensures.0)
@@ -27,4 +27,4 @@ returns-2 c =
 pub refused_piece_spec : {M : Type 1} → statement M
 refused_piece_spec =
     tie.close
-    (tie.spec returns (λ c κs. omega (arith, c.requires)) (λ c. search rules) returns-2)
+    (tie.spec returns-then-number-ne0 (λ c κs. omega (arith, c.requires)) (λ c. search rules) returns)

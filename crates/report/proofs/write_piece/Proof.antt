@@ -19,14 +19,14 @@ read c = job_read _ _ (sym c.read_job.ensures ∙ c.in-Read.is)
 abbrev told : tie.After-job_piece-arg-1 → tie.In-Read
 told c = c.before.before.before
 
-returns : tie.Need-returns-in-Refused
+returns-in-Refused : tie.Need-returns-in-Refused
 unfolding pieces
-returns c =
+returns-in-Refused c =
     rw (sym c.read_job.ensures ∙ c.in-Refused.is) c.refused_piece.ensures
 
-returns-2 : tie.Need-returns-in-Read
+returns-in-Read : tie.Need-returns-in-Read
 unfolding pieces
-returns-2 c =
+returns-in-Read c =
     let call = c.before.before.before.before.before.before in
     let asked = told call in
     let job = asked.in-Read.job in
@@ -49,6 +49,6 @@ write_piece_spec =
     (λ c. omega (arith, (read (told c.before)).whole))
     (λ c. omega (arith, (read (told c.before)).whole))
     (λ c. search rules) (λ c κs. search rules) (λ c. search rules)
-    returns
+    returns-in-Refused
     (λ c. search rules)
-    returns-2)
+    returns-in-Read)

@@ -24,8 +24,8 @@ asked c = c.before.before.before
 abbrev filled : tie.After-show-arg-1 → tie.After-fill
 filled c = c.before.before.before.before.before
 
-returns : tie.Need-returns-in-Refused
-returns c =
+returns-in-Refused : tie.Need-returns-in-Refused
+returns-in-Refused c =
     let a = c.args in
     let asked = Span a.category a.start a.end in
     let G = grammar_given a.g.now in
@@ -38,8 +38,8 @@ show-requires c κs =
     let work = (filled c).fill.ensures.work in
     (p.read, (line_is p).short, span.0, span.1, span.2, rw work.depths_long (memory_is p).1, filled_kept p work, rw work.words_long (memory_is p).0, filled_rows p work)
 
-returns-2 : tie.Need-returns
-returns-2 c =
+returns : tie.Need-returns
+returns c =
     let f = filled c.before.before.before in
     tree_shown _ _ _ _ _ _ _ _ _ (passes (asked f)) f.fill.ensures.work _ _ c.show.ensures
 
@@ -48,9 +48,9 @@ tree_spec =
     tie.close
     (tie.spec
     (λ c κs. search rules) (λ c. search rules)
-    returns
+    returns-in-Refused
     (λ c. search rules)
     (λ c κs. fillable (passes c.before.before))
     show-requires
     (λ c. search rules) (λ c. search rules) (λ c. search rules)
-    returns-2)
+    returns)

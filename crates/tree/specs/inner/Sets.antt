@@ -15,7 +15,7 @@ pub record WorkKept (G : Grammar) (line words depths : List ℕ) : Type 0 where
   pub kept : DepthsKept G line depths
   pub rows : RowsKept G line words
 
--- r is the first position of which P holds, and noEnd where it holds of none
+-- r is the first position of which P holds, and `no_end` where it holds of none
 pub record FirstThat (P : ℕ → Type 0) (r : ℕ) : Type 0 where
   pub none : (e : ℕ) → e < r → P e → ⊥
   pub found : (r ≡ no_end → ⊥) → P r

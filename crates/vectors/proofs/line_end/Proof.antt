@@ -12,26 +12,26 @@ invariant-loop-end text at end₀ end = (at ≤ end) × (end ≤ length text)
 abbrev decreases-loop-end : tie.decreases-loop-end
 decreases-loop-end text at end₀ end = length text - end
 
-loop-holds : tie.Need-loop-end-init invariant-loop-end decreases-loop-end
-loop-holds c = (omega arith, omega arith)
+loop-end-init : tie.Need-loop-end-init invariant-loop-end decreases-loop-end
+loop-end-init c = (omega arith, omega arith)
 
-shared-slice-read-if1 : tie.Need-bounds-text-end invariant-loop-end decreases-loop-end
-shared-slice-read-if1 c = search rules
+bounds-text-end : tie.Need-bounds-text-end invariant-loop-end decreases-loop-end
+bounds-text-end c = search rules
 
-returns : tie.Need-returns-then-text-end-eq10 invariant-loop-end decreases-loop-end
+returns-then-text-end-eq10 : tie.Need-returns-then-text-end-eq10 invariant-loop-end decreases-loop-end
+returns-then-text-end-eq10 c = (omega arith, omega arith)
+
+overflow_add-end : tie.Need-overflow_add-end invariant-loop-end decreases-loop-end
+overflow_add-end c = search rules
+
+loop-end-smaller : tie.Need-loop-end-smaller invariant-loop-end decreases-loop-end
+loop-end-smaller c = omega arith
+
+loop-end-preserved : tie.Need-loop-end-preserved invariant-loop-end decreases-loop-end
+loop-end-preserved c = (omega arith, omega arith)
+
+returns : tie.Need-returns invariant-loop-end decreases-loop-end
 returns c = (omega arith, omega arith)
-
-add-end : tie.Need-overflow_add-end invariant-loop-end decreases-loop-end
-add-end c = search rules
-
-loop-less : tie.Need-loop-end-smaller invariant-loop-end decreases-loop-end
-loop-less c = omega arith
-
-loop-again : tie.Need-loop-end-preserved invariant-loop-end decreases-loop-end
-loop-again c = (omega arith, omega arith)
-
-returns-2 : tie.Need-returns invariant-loop-end decreases-loop-end
-returns-2 c = (omega arith, omega arith)
 
 pub line_end_spec : {M : Type 1} → statement M
 line_end_spec =
@@ -39,10 +39,10 @@ line_end_spec =
     (tie.spec
     invariant-loop-end
     decreases-loop-end
-    loop-holds
-    shared-slice-read-if1
-    returns
-    add-end
-    loop-less
-    loop-again
-    returns-2)
+    loop-end-init
+    bounds-text-end
+    returns-then-text-end-eq10
+    overflow_add-end
+    loop-end-smaller
+    loop-end-preserved
+    returns)

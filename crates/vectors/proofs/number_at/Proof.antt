@@ -13,41 +13,41 @@ invariant-loop-next line at value₀ next₀ value next = Onward line at next
 abbrev decreases-loop-next : tie.decreases-loop-next
 decreases-loop-next line at value₀ next₀ value next = length line - next
 
-shared-slice-read-with-digit : tie.Need-bounds-line-at invariant-loop-next decreases-loop-next
-shared-slice-read-with-digit c = search rules
+bounds-line-at : tie.Need-bounds-line-at invariant-loop-next decreases-loop-next
+bounds-line-at c = search rules
 
-with-digit-requires : tie.Need-with_digit-value-requires invariant-loop-next decreases-loop-next
-with-digit-requires c κs = search rules
+with_digit-value-requires : tie.Need-with_digit-value-requires invariant-loop-next decreases-loop-next
+with_digit-value-requires c κs = search rules
 
-add-next : tie.Need-overflow_add-next invariant-loop-next decreases-loop-next
-add-next c = search rules
+overflow_add-next : tie.Need-overflow_add-next invariant-loop-next decreases-loop-next
+overflow_add-next c = search rules
 
-returns : tie.Need-returns-then-value-eq257 invariant-loop-next decreases-loop-next
-returns c = search rules
+returns-then-value-eq257 : tie.Need-returns-then-value-eq257 invariant-loop-next decreases-loop-next
+returns-then-value-eq257 c = search rules
 
-loop-holds : tie.Need-loop-next-init invariant-loop-next decreases-loop-next
-loop-holds c = record { further = omega arith; within = omega arith }
+loop-next-init : tie.Need-loop-next-init invariant-loop-next decreases-loop-next
+loop-next-init c = record { further = omega arith; within = omega arith }
 
-shared-slice-read-with-digit-2 : tie.Need-bounds-line-next invariant-loop-next decreases-loop-next
-shared-slice-read-with-digit-2 c = search rules
+bounds-line-next : tie.Need-bounds-line-next invariant-loop-next decreases-loop-next
+bounds-line-next c = search rules
 
-with-digit-requires-2 : tie.Need-with_digit-longer-requires invariant-loop-next decreases-loop-next
-with-digit-requires-2 c κs = search rules
+with_digit-longer-requires : tie.Need-with_digit-longer-requires invariant-loop-next decreases-loop-next
+with_digit-longer-requires c κs = search rules
 
-returns-2 : tie.Need-returns-then-longer-eq257 invariant-loop-next decreases-loop-next
-returns-2 c = search rules
+returns-then-longer-eq257 : tie.Need-returns-then-longer-eq257 invariant-loop-next decreases-loop-next
+returns-then-longer-eq257 c = search rules
 
-add-next-2 : tie.Need-overflow_add-next-in-loop-next invariant-loop-next decreases-loop-next
-add-next-2 c = search rules
+overflow_add-next-in-loop-next : tie.Need-overflow_add-next-in-loop-next invariant-loop-next decreases-loop-next
+overflow_add-next-in-loop-next c = search rules
 
-loop-less : tie.Need-loop-next-smaller invariant-loop-next decreases-loop-next
-loop-less c = omega arith
+loop-next-smaller : tie.Need-loop-next-smaller invariant-loop-next decreases-loop-next
+loop-next-smaller c = omega arith
 
-loop-again : tie.Need-loop-next-preserved invariant-loop-next decreases-loop-next
-loop-again c = record { further = omega arith; within = omega arith }
+loop-next-preserved : tie.Need-loop-next-preserved invariant-loop-next decreases-loop-next
+loop-next-preserved c = record { further = omega arith; within = omega arith }
 
-returns-3 : tie.Need-returns invariant-loop-next decreases-loop-next
-returns-3 c = c.loop-next.invariant
+returns : tie.Need-returns invariant-loop-next decreases-loop-next
+returns c = c.loop-next.invariant
 
 pub number_at_spec : {M : Type 1} → statement M
 number_at_spec =
@@ -55,15 +55,15 @@ number_at_spec =
     (tie.spec
     invariant-loop-next
     decreases-loop-next
-    shared-slice-read-with-digit
-    with-digit-requires
-    add-next
-    returns
-    loop-holds
-    shared-slice-read-with-digit-2
-    with-digit-requires-2
-    returns-2
-    add-next-2
-    loop-less
-    loop-again
-    returns-3)
+    bounds-line-at
+    with_digit-value-requires
+    overflow_add-next
+    returns-then-value-eq257
+    loop-next-init
+    bounds-line-next
+    with_digit-longer-requires
+    returns-then-longer-eq257
+    overflow_add-next-in-loop-next
+    loop-next-smaller
+    loop-next-preserved
+    returns)

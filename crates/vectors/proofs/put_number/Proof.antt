@@ -5,28 +5,28 @@ use lib.ListN.{length-set}
 use Rattle.vectors.proofs.put_number.Statement.{statement}
 use Rattle.vectors.proofs.put_number.Tie as tie
 
-returns : tie.Need-returns-then-count-job
-returns c = search rules
+returns-then-count-job : tie.Need-returns-then-count-job
+returns-then-count-job c = search rules
 
-returns-2 : tie.Need-returns-then-value-gt255
-returns-2 c = search rules
+returns-then-value-gt255 : tie.Need-returns-then-value-gt255
+returns-then-value-gt255 c = search rules
 
-cast-job : tie.Need-overflow_cast-job
-cast-job c = search rules
+overflow_cast-job : tie.Need-overflow_cast-job
+overflow_cast-job c = search rules
 
-slice-write-job : tie.Need-bounds-job-count
-slice-write-job c = search rules
+bounds-job-count : tie.Need-bounds-job-count
+bounds-job-count c = search rules
 
-add-result : tie.Need-overflow_add-result
-add-result c = search rules
+overflow_add-result : tie.Need-overflow_add-result
+overflow_add-result c = search rules
 
-same_length : tie.Need-shape_of-job
-same_length c = search rules
+shape_of-job : tie.Need-shape_of-job
+shape_of-job c = search rules
 
-returns-3 : tie.Need-returns
-returns-3 c = simp length-set (omega arith)
+returns : tie.Need-returns
+returns c = simp length-set (omega arith)
 
 pub put_number_spec : {M : Type 1} → statement M
 put_number_spec =
     tie.close
-    (tie.spec returns returns-2 cast-job slice-write-job add-result same_length returns-3)
+    (tie.spec returns-then-count-job returns-then-value-gt255 overflow_cast-job bounds-job-count overflow_add-result shape_of-job returns)

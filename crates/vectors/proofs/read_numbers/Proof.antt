@@ -13,32 +13,32 @@ invariant-loop-at line job₀ count₀ at₀ job count at = (count ≤ length jo
 abbrev decreases-loop-at : tie.decreases-loop-at
 decreases-loop-at line job₀ count₀ at₀ job count at = length line - at
 
-loop-holds : tie.Need-loop-at-init invariant-loop-at decreases-loop-at
-loop-holds c = (omega arith, refl, omega arith)
+loop-at-init : tie.Need-loop-at-init invariant-loop-at decreases-loop-at
+loop-at-init c = (omega arith, refl, omega arith)
 
-number-at-requires : tie.Need-number_at-number-requires invariant-loop-at decreases-loop-at
-number-at-requires c κs = search rules
+number_at-number-requires : tie.Need-number_at-number-requires invariant-loop-at decreases-loop-at
+number_at-number-requires c κs = search rules
 
-same_length : tie.Need-shape_of-job-then-number-eq256 invariant-loop-at decreases-loop-at
-same_length c = search rules
+shape_of-job-then-number-eq256 : tie.Need-shape_of-job-then-number-eq256 invariant-loop-at decreases-loop-at
+shape_of-job-then-number-eq256 c = search rules
 
-returns : tie.Need-returns-then-number-eq256 invariant-loop-at decreases-loop-at
-returns c = search rules
+returns-then-number-eq256 : tie.Need-returns-then-number-eq256 invariant-loop-at decreases-loop-at
+returns-then-number-eq256 c = search rules
 
-put-number-requires : tie.Need-put_number-count-requires invariant-loop-at decreases-loop-at
-put-number-requires c κs = c.loop-at.invariant.0
+put_number-count-requires : tie.Need-put_number-count-requires invariant-loop-at decreases-loop-at
+put_number-count-requires c κs = c.loop-at.invariant.0
 
-loop-less : tie.Need-loop-at-smaller invariant-loop-at decreases-loop-at
-loop-less c = omega arith
+loop-at-smaller : tie.Need-loop-at-smaller invariant-loop-at decreases-loop-at
+loop-at-smaller c = omega arith
 
-loop-again : tie.Need-loop-at-preserved invariant-loop-at decreases-loop-at
-loop-again c = (c.put_number-count.ensures, omega arith, omega arith)
+loop-at-preserved : tie.Need-loop-at-preserved invariant-loop-at decreases-loop-at
+loop-at-preserved c = (c.put_number-count.ensures, omega arith, omega arith)
 
-same-length-2 : tie.Need-shape_of-job invariant-loop-at decreases-loop-at
-same-length-2 c = c.loop-at.invariant.1
+shape_of-job : tie.Need-shape_of-job invariant-loop-at decreases-loop-at
+shape_of-job c = c.loop-at.invariant.1
 
-returns-2 : tie.Need-returns invariant-loop-at decreases-loop-at
-returns-2 c = c.loop-at.invariant.0
+returns : tie.Need-returns invariant-loop-at decreases-loop-at
+returns c = c.loop-at.invariant.0
 
 pub read_numbers_spec : {M : Type 1} → statement M
 read_numbers_spec =
@@ -46,12 +46,12 @@ read_numbers_spec =
     (tie.spec
     invariant-loop-at
     decreases-loop-at
-    loop-holds
-    number-at-requires
-    same_length
-    returns
-    put-number-requires
-    loop-less
-    loop-again
-    same-length-2
-    returns-2)
+    loop-at-init
+    number_at-number-requires
+    shape_of-job-then-number-eq256
+    returns-then-number-eq256
+    put_number-count-requires
+    loop-at-smaller
+    loop-at-preserved
+    shape_of-job
+    returns)

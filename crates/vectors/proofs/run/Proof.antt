@@ -13,23 +13,23 @@ invariant-loop-at text job₀ out₀ at₀ job out at = (length job ≡ length j
 abbrev decreases-loop-at : tie.decreases-loop-at
 decreases-loop-at text job₀ out₀ at₀ job out at = length text - at
 
-loop-holds : tie.Need-loop-at-init invariant-loop-at decreases-loop-at
-loop-holds c = (refl, refl)
+loop-at-init : tie.Need-loop-at-init invariant-loop-at decreases-loop-at
+loop-at-init c = (refl, refl)
 
-run-line-requires : tie.Need-run_line-at-requires invariant-loop-at decreases-loop-at
-run-line-requires c κs = (omega arith, omega arith)
+run_line-at-requires : tie.Need-run_line-at-requires invariant-loop-at decreases-loop-at
+run_line-at-requires c κs = (omega arith, omega arith)
 
-loop-less : tie.Need-loop-at-smaller invariant-loop-at decreases-loop-at
-loop-less c = omega arith
+loop-at-smaller : tie.Need-loop-at-smaller invariant-loop-at decreases-loop-at
+loop-at-smaller c = omega arith
 
-loop-again : tie.Need-loop-at-preserved invariant-loop-at decreases-loop-at
-loop-again c = (omega arith, omega arith)
+loop-at-preserved : tie.Need-loop-at-preserved invariant-loop-at decreases-loop-at
+loop-at-preserved c = (omega arith, omega arith)
 
-same_length : tie.Need-shape_of-job invariant-loop-at decreases-loop-at
-same_length c = c.loop-at.invariant.0
+shape_of-job : tie.Need-shape_of-job invariant-loop-at decreases-loop-at
+shape_of-job c = c.loop-at.invariant.0
 
-same-length-2 : tie.Need-shape_of-out invariant-loop-at decreases-loop-at
-same-length-2 c = c.loop-at.invariant.1
+shape_of-out : tie.Need-shape_of-out invariant-loop-at decreases-loop-at
+shape_of-out c = c.loop-at.invariant.1
 
 returns : tie.Need-returns invariant-loop-at decreases-loop-at
 returns c = search rules
@@ -40,10 +40,10 @@ run_spec =
     (tie.spec
     invariant-loop-at
     decreases-loop-at
-    loop-holds
-    run-line-requires
-    loop-less
-    loop-again
-    same_length
-    same-length-2
+    loop-at-init
+    run_line-at-requires
+    loop-at-smaller
+    loop-at-preserved
+    shape_of-job
+    shape_of-out
     returns)

@@ -11,19 +11,19 @@ use Rattle.chart.proofs.work.checked.Tie as tie
 was_read : (c : tie.In-Accepted) → read_of c.args.g.now ≡ Accepted c.in-Accepted.s
 was_read c = sym c.read.ensures ∙ c.in-Accepted.is
 
-check-rest-requires : tie.Need-check_rest-requires
-check-rest-requires c κs = let read = was_read c in (whole _ _ (accepted _ _ read).0).categories_high
+check_rest-requires : tie.Need-check_rest-requires
+check_rest-requires c κs = let read = was_read c in (whole _ _ (accepted _ _ read).0).categories_high
 
-returns : tie.Need-returns-in-Refused
-returns c = simp (sym c.read.ensures ∙ c.in-Refused.is)
+returns-in-Refused : tie.Need-returns-in-Refused
+returns-in-Refused c = simp (sym c.read.ensures ∙ c.in-Refused.is)
 
-returns-2 : tie.Need-returns-in-Refused-check_rest
-returns-2 c =
+returns-in-Refused-check_rest : tie.Need-returns-in-Refused-check_rest
+returns-in-Refused-check_rest c =
     let l = c.before.before in
     simp (was_read l, sym c.check_rest.ensures ∙ c.in-Refused-check_rest.is)
 
-returns-3 : tie.Need-returns-in-Passed
-returns-3 c =
+returns-in-Passed : tie.Need-returns-in-Passed
+returns-in-Passed c =
     let l = c.before.before in
     simp (was_read l, sym c.check_rest.ensures ∙ c.in-Passed.is)
 
@@ -32,8 +32,8 @@ checked_spec =
     tie.close
     (tie.spec
     (λ c κs. search rules) (λ c. search rules) (λ c. search rules)
-    check-rest-requires
+    check_rest-requires
     (λ c. search rules) (λ c. search rules)
-    returns
-    returns-2
-    returns-3)
+    returns-in-Refused
+    returns-in-Refused-check_rest
+    returns-in-Passed)

@@ -17,17 +17,17 @@ invariant-loop-q words rows ends₀ q₀ ends q = (q ≤ rows) × (ends ≡ tota
 abbrev decreases-loop-q : tie.decreases-loop-q
 decreases-loop-q words rows ends₀ q₀ ends q = rows - q
 
-loop-holds : tie.Need-loop-q-init invariant-loop-q decreases-loop-q
-loop-holds c = (search rules, sym (total_none _))
+loop-q-init : tie.Need-loop-q-init invariant-loop-q decreases-loop-q
+loop-q-init c = (search rules, sym (total_none _))
 
-add-ends : tie.Need-overflow_add-ends invariant-loop-q decreases-loop-q
-add-ends c =
+overflow_add-ends : tie.Need-overflow_add-ends invariant-loop-q decreases-loop-q
+overflow_add-ends c =
     let l = c.loop-q in
     let words = c.args.words.now in
     omega (arith, total_le (λ k. count_below 64 (get_or words k 0)) 64 l.q (λ k. count_le 64 (get_or words k 0)), count_le 64 (get_or words l.q 0), l.invariant.1, c.count.ensures)
 
-loop-again : tie.Need-loop-q-preserved invariant-loop-q decreases-loop-q
-loop-again c =
+loop-q-preserved : tie.Need-loop-q-preserved invariant-loop-q decreases-loop-q
+loop-q-preserved c =
     let l = c.loop-q in
     let words = c.args.words.now in
     (search rules, omega (arith, total_next (λ k. count_below 64 (get_or words k 0)) l.q, l.invariant.1, c.count.ensures))
@@ -44,9 +44,9 @@ count_ends_spec =
     (tie.spec
     invariant-loop-q
     decreases-loop-q
-    loop-holds
+    loop-q-init
     (λ c. search rules) (λ c. search rules) (λ c κs. search rules) (λ c. search rules)
-    add-ends
+    overflow_add-ends
     (λ c. search rules) (λ c. search rules)
-    loop-again
+    loop-q-preserved
     returns)

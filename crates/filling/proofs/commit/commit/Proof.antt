@@ -40,11 +40,11 @@ module _ (c : tie.In-loop-a invariant-loop-a decreases-loop-a) where
 abbrev committed : tie.After-slice_known-in-loop-a-2-1 invariant-loop-a decreases-loop-a → tie.After-commit_rows invariant-loop-a decreases-loop-a
 committed c = c.before.before.before.before
 
-loop-holds : tie.Need-loop-a-init invariant-loop-a decreases-loop-a
-loop-holds c = let a = c.args in (search rules, all_none a.width a.depth a.next.now a.words.now a.depths.now)
+loop-a-init : tie.Need-loop-a-init invariant-loop-a decreases-loop-a
+loop-a-init c = let a = c.args in (search rules, all_none a.width a.depth a.next.now a.words.now a.depths.now)
 
-commit-rows-requires : tie.Need-commit_rows-requires invariant-loop-a decreases-loop-a
-commit-rows-requires c κs =
+commit_rows-requires : tie.Need-commit_rows-requires invariant-loop-a decreases-loop-a
+commit_rows-requires c κs =
     let i = c.before.before in
     let t = i.before in
     let a = (entry t).args in
@@ -54,8 +54,8 @@ commit-rows-requires c κs =
       few i,
     )
 
-loop-again : tie.Need-loop-a-preserved invariant-loop-a decreases-loop-a
-loop-again c =
+loop-a-preserved : tie.Need-loop-a-preserved invariant-loop-a decreases-loop-a
+loop-a-preserved c =
     let k = c.commit_rows in
     let i = c.before.before.before.before.before.before.before.before in
     let a = (entry i.before).args in
@@ -82,11 +82,11 @@ commit_spec =
     (tie.spec
     invariant-loop-a
     decreases-loop-a
-    loop-holds
+    loop-a-init
     (λ c. omega (arith, few c)) (λ c. omega (arith, few c.before.before))
-    commit-rows-requires
+    commit_rows-requires
     (λ c κs. omega arith) (λ c. omega arith) (λ c. omega arith)
-    loop-again
+    loop-a-preserved
     (λ c. c.loop-a.invariant.1.committed.words_long)
     (λ c. c.loop-a.invariant.1.committed.depths_long)
     returns)

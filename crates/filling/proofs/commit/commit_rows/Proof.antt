@@ -50,25 +50,25 @@ joined t end e h words depths g₂ g =
 alone : {g : Bool} → (g ≡ true) ↔ ((g ≡ true) ⊎ (false ≡ true))
 alone = (inl, ⊎_elim (λ x. x) (λ x. absurd (false≢true x)))
 
-loop-holds : tie.Need-loop-q-init invariant-loop-q decreases-loop-q
-loop-holds c =
+loop-q-init : tie.Need-loop-q-init invariant-loop-q decreases-loop-q
+loop-q-init c =
     let a = c.args in
     (search rules, search rules, rows_same a.width a.depth a.next.now a.from a.from a.words.now a.depths.now (λ q l h. absurd (omega arith)))
 
-mul-write-depths : tie.Need-overflow_mul-q invariant-loop-q decreases-loop-q
-mul-write-depths c =
+overflow_mul-q : tie.Need-overflow_mul-q invariant-loop-q decreases-loop-q
+overflow_mul-q c =
     let a = (entry (turn c)).args in
     omega (arith, mul-le-mul_right {m = (turn c).loop-q.q} {n = a.to} a.width (omega arith), (entry (turn c)).requires.0.depths_room)
 
-write-depths-requires : tie.Need-write_depths-requires invariant-loop-q decreases-loop-q
-write-depths-requires c κs = λ j m.
+write_depths-requires : tie.Need-write_depths-requires invariant-loop-q decreases-loop-q
+write_depths-requires c κs = λ j m.
     let t = turn c in
     let r = ready t in
     let l : t.loop-q.q < (entry t).args.to = omega arith in
     omega (arith, digits_lt l (r.narrow t.loop-q.q j l ((xor_member _ _ j (r.grows t.loop-q.q j l)).0 m).0), r.depths_room)
 
-loop-again : tie.Need-loop-q-preserved invariant-loop-q decreases-loop-q
-loop-again c =
+loop-q-preserved : tie.Need-loop-q-preserved invariant-loop-q decreases-loop-q
+loop-q-preserved c =
     let t = c.before.before.before.before.before in
     let a = (entry t).args in
     let l = t.loop-q in (
@@ -101,16 +101,16 @@ commit_rows_spec =
     (tie.spec
     invariant-loop-q
     decreases-loop-q
-    loop-holds
+    loop-q-init
     (λ c. omega arith)
     (λ c. omega (arith, (ready c.before.before).words_room))
     (λ c. omega arith) (λ c. omega arith)
-    mul-write-depths
-    write-depths-requires
+    overflow_mul-q
+    write_depths-requires
     (λ c. omega arith)
     (λ c. omega (arith, (ready (turn c.before.before.before)).words_room))
     (λ c. omega arith) (λ c. omega arith)
-    loop-again
+    loop-q-preserved
     (λ c. c.loop-q.invariant.2.committed.words_long)
     (λ c. c.loop-q.invariant.2.committed.depths_long)
     returns)

@@ -31,11 +31,11 @@ module _ (c : tie.After-first-j invariant-loop-left decreases-loop-left) where
   room : let a = entry.args in a.base + c.first-j.result < length a.depths.now
   room = c.loop-left.invariant.2 _ turn.here
 
-loop-holds : tie.Need-loop-left-init invariant-loop-left decreases-loop-left
-loop-holds c = (search rules, refl, c.requires, λ final d. d)
+loop-left-init : tie.Need-loop-left-init invariant-loop-left decreases-loop-left
+loop-left-init c = (search rules, refl, c.requires, λ final d. d)
 
-loop-again : tie.Need-loop-left-preserved invariant-loop-left decreases-loop-left
-loop-again c =
+loop-left-preserved : tie.Need-loop-left-preserved invariant-loop-left decreases-loop-left
+loop-left-preserved c =
     let a = (entry c).args in
     let l = c.loop-left in
     let t = turn c in (
@@ -57,10 +57,10 @@ write_depths_spec =
     (tie.spec
     invariant-loop-left
     decreases-loop-left
-    loop-holds
+    loop-left-init
     (λ c κs. search rules) (λ c. search rules) (λ c. omega (arith, room c)) (λ c. omega (arith, room c))
     (λ c. omega (arith, room c))
     (λ c. (turn c).some) (λ c. (turn c).less)
-    loop-again
+    loop-left-preserved
     (λ c. c.loop-left.invariant.1)
     returns)

@@ -24,11 +24,11 @@ inside c = rows_few c.args.left c.args.width c.requires.1 c.requires.0.narrow
 within : (c : tie.In-loop-start invariant-loop-start decreases-loop-start) → (entry c.before).args.left * (entry c.before).args.width + c.loop-start.start < 2048
 within c = omega (arith, inside (entry c.before))
 
-loop-holds : tie.Need-loop-start-init invariant-loop-start decreases-loop-start
-loop-holds c = (search rules, applied_none)
+loop-start-init : tie.Need-loop-start-init invariant-loop-start decreases-loop-start
+loop-start-init c = (search rules, applied_none)
 
-loop-again : tie.Need-loop-start-preserved invariant-loop-start decreases-loop-start
-loop-again c =
+loop-start-preserved : tie.Need-loop-start-preserved invariant-loop-start decreases-loop-start
+loop-start-preserved c =
     let l = c.loop-start in
     let s = entry c.before.before.before.before in (
       search rules,
@@ -48,10 +48,10 @@ apply_spec =
     invariant-loop-start
     decreases-loop-start
     (λ c. omega (arith, inside c.before.before))
-    loop-holds
+    loop-start-init
     (λ c κs. search rules) (λ c. omega (arith, within c.before)) (λ c. omega (arith, within c.before))
     (λ c. within c.before.before)
     (λ c. omega (arith, within c.before.before.before))
     (λ c. within c.before.before.before) (λ c. search rules) (λ c. search rules)
-    loop-again
+    loop-start-preserved
     returns)

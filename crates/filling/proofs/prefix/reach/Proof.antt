@@ -21,18 +21,18 @@ entry c = c.before.before.before.before
 abbrev turn : tie.After-shared_slice_known-in-loop-d-1 invariant-loop-d decreases-loop-d → tie.At-loop-d invariant-loop-d decreases-loop-d
 turn c = c.before.before.before
 
-loop-holds : tie.Need-loop-d-init invariant-loop-d decreases-loop-d
-loop-holds c = (search rules, reached_none c.insert-ends.result c.requires.1 c.insert-ends.ensures)
+loop-d-init : tie.Need-loop-d-init invariant-loop-d decreases-loop-d
+loop-d-init c = (search rules, reached_none c.insert-ends.result c.requires.1 c.insert-ends.ensures)
 
-returns : tie.Need-returns-then-ends-eq0 invariant-loop-d decreases-loop-d
-returns c = let l = c.loop-d in reached_nowhere l.d l.ends c.if-ends-eq0.true l.invariant.1
+returns-then-ends-eq0 : tie.Need-returns-then-ends-eq0 invariant-loop-d decreases-loop-d
+returns-then-ends-eq0 c = let l = c.loop-d in reached_nowhere l.d l.ends c.if-ends-eq0.true l.invariant.1
 
 -- the rows of the category are in the words
 inside : (c : tie.Else-symbol-lt128 invariant-loop-d decreases-loop-d) → let l = turn c.before in let a = (entry l).args in (get_or a.symbols.now l.loop-d.d 0 - 128) * a.width + a.width ≤ length a.words.now
 inside c = let l = turn c.before in (entry l).requires.0.rows l.loop-d.d c.loop-d-test.true c.if-symbol-lt128.false
 
-loop-again : tie.Need-loop-d-preserved invariant-loop-d decreases-loop-d
-loop-again c =
+loop-d-preserved : tie.Need-loop-d-preserved invariant-loop-d decreases-loop-d
+loop-d-preserved c =
     let l = (turn c.before).loop-d in
     let t = c.loop-d-test.true in (
       search rules,
@@ -42,8 +42,8 @@ loop-again c =
       ],
     )
 
-returns-2 : tie.Need-returns invariant-loop-d decreases-loop-d
-returns-2 c = let l = c.loop-d in reached_all l.d l.ends c.loop-d-test.false l.invariant.1
+returns : tie.Need-returns invariant-loop-d decreases-loop-d
+returns c = let l = c.loop-d in reached_all l.d l.ends c.loop-d-test.false l.invariant.1
 
 pub reach_spec : {M : Type 1} → statement M
 reach_spec =
@@ -52,8 +52,8 @@ reach_spec =
     invariant-loop-d
     decreases-loop-d
     (λ c κs. search rules)
-    loop-holds
-    returns
+    loop-d-init
+    returns-then-ends-eq0
     (λ c. search rules)
     (λ c. omega (arith, c.shared_slice_known-in-loop-d-1.given (turn c).loop-d.d))
     (λ c. search rules) (λ c. search rules)
@@ -61,5 +61,5 @@ reach_spec =
     (λ c. omega (arith, inside c))
     (λ c κs. ((entry (turn c.before)).requires.0.narrow, inside c))
     (λ c. search rules) (λ c. search rules)
-    loop-again
-    returns-2)
+    loop-d-preserved
+    returns)

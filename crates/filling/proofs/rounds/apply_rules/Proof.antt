@@ -20,8 +20,8 @@ invariant-loop-p g starts masks changed words places width next₀ rules p₀ ne
 abbrev decreases-loop-p : tie.decreases-loop-p
 decreases-loop-p g starts masks changed words places width next₀ rules p₀ next p = rules - p
 
-loop-holds : tie.Need-loop-p-init invariant-loop-p decreases-loop-p
-loop-holds c = (search rules, λ s e. rules_none)
+loop-p-init : tie.Need-loop-p-init invariant-loop-p decreases-loop-p
+loop-p-init c = (search rules, λ s e. rules_none)
 
 -- the function's entry; the turn, from where the rule's category is read; and rule p where it stands
 abbrev entry : tie.At-loop-p invariant-loop-p decreases-loop-p → tie.Start invariant-loop-p decreases-loop-p
@@ -67,8 +67,8 @@ again c =
       | else-masks-p-ne0 w ↦ rw w.next-is (rules_skip l.p _ w.if-masks-p-ne0.false x)
     ]
 
-loop-again : tie.Need-loop-p-preserved invariant-loop-p decreases-loop-p
-loop-again c = (omega arith, λ s e. rw (sections_one _ s _ e (entry c.before.before.before.before).requires.0) (again c))
+loop-p-preserved : tie.Need-loop-p-preserved invariant-loop-p decreases-loop-p
+loop-p-preserved c = (omega arith, λ s e. rw (sections_one _ s _ e (entry c.before.before.before.before).requires.0) (again c))
 
 returns : tie.Need-returns invariant-loop-p decreases-loop-p
 returns c =
@@ -81,7 +81,7 @@ apply_rules_spec =
     (tie.spec
     invariant-loop-p
     decreases-loop-p
-    loop-holds
+    loop-p-init
     (λ c. omega (arith, few c))
     (λ c. few c.before)
     (λ c. omega (arith, few c.before.before.before)) (λ c. few c.before.before.before.before)
@@ -89,5 +89,5 @@ apply_rules_spec =
     (λ c. search rules) (λ c κs. (here (turn c)).stands)
     apply-requires
     (λ c. omega arith) (λ c. omega arith)
-    loop-again
+    loop-p-preserved
     returns)

@@ -13,11 +13,11 @@ invariant-loop-q depths₀ count q₀ depths q = (q ≤ count) × Cleared q dept
 abbrev decreases-loop-q : tie.decreases-loop-q
 decreases-loop-q depths₀ count q₀ depths q = count - q
 
-loop-holds : tie.Need-loop-q-init invariant-loop-q decreases-loop-q
-loop-holds c = (search rules, cleared_none _)
+loop-q-init : tie.Need-loop-q-init invariant-loop-q decreases-loop-q
+loop-q-init c = (search rules, cleared_none _)
 
-loop-again : tie.Need-loop-q-preserved invariant-loop-q decreases-loop-q
-loop-again c = (search rules, cleared_more _ _ _ (omega arith) c.loop-q.invariant.1)
+loop-q-preserved : tie.Need-loop-q-preserved invariant-loop-q decreases-loop-q
+loop-q-preserved c = (search rules, cleared_more _ _ _ (omega arith) c.loop-q.invariant.1)
 
 returns : tie.Need-returns invariant-loop-q decreases-loop-q
 returns c =
@@ -31,8 +31,8 @@ clear_depths_spec =
     (tie.spec
     invariant-loop-q
     decreases-loop-q
-    loop-holds
+    loop-q-init
     (λ c. search rules) (λ c. search rules) (λ c. search rules) (λ c. search rules)
-    loop-again
+    loop-q-preserved
     (λ c. c.loop-q.invariant.1.long)
     returns)

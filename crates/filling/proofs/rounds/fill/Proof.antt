@@ -41,13 +41,13 @@ done c = c.before.before.before.before
 given : (c : tie.After-rule_masks-masks invariant-loop-changed decreases-loop-changed) → Given (grammar_of (origin c).args.g.now (origin c).args.s) (origin c).args.line.now
 given c = let p = (origin c).requires in record { limits = sections_within _ _ p.0; proper = sections_proper _ _ p.0; short = p.1.short }
 
-class-places-requires : tie.Need-class_places-places-requires invariant-loop-changed decreases-loop-changed
-class-places-requires c κs =
+class_places-places-requires : tie.Need-class_places-places-requires invariant-loop-changed decreases-loop-changed
+class_places-places-requires c κs =
     let p = (origin c).requires in
     record { short = p.1.short; tokens = λ t l. le_trans (p.1.tokens t l) (whole _ _ p.0).classes_high }
 
-loop-holds : tie.Need-loop-changed-init invariant-loop-changed decreases-loop-changed
-loop-holds c = let m = c.before.before in (omega arith, start_done _ _ _ _ _ _ _ _ (category_count_lem _ _ (origin m).requires.0) c.insert-changed.ensures (cleared m).clear_words.ensures (deep m).clear_depths.ensures)
+loop-changed-init : tie.Need-loop-changed-init invariant-loop-changed decreases-loop-changed
+loop-changed-init c = let m = c.before.before in (omega arith, start_done _ _ _ _ _ _ _ _ (category_count_lem _ _ (origin m).requires.0) c.insert-changed.ensures (cleared m).clear_words.ensures (deep m).clear_depths.ensures)
 
 -- the loop goes on at most 2048 times
 some : (c : tie.In-loop-changed invariant-loop-changed decreases-loop-changed) → 0 < c.loop-changed.changed
@@ -63,8 +63,8 @@ room c = let h = (origin c).requires.2 in le_trans h (le_of_eq (sym (ap length (
 deep_room : (c : tie.After-rule_masks-masks invariant-loop-changed decreases-loop-changed) → depths_size (origin c).args.s.categories (length (origin c).args.line.now) ≤ length (deep c).clear_depths.new.depths
 deep_room c = let h = (origin c).requires.3 in le_trans h (le_of_eq (sym (ap length (deep c).clear_depths.ensures ∙ cleared_long _ _ h)))
 
-commit-requires : tie.Need-commit-changed-requires invariant-loop-changed decreases-loop-changed
-commit-requires c κs =
+commit-changed-requires : tie.Need-commit-changed-requires invariant-loop-changed decreases-loop-changed
+commit-changed-requires c κs =
     let l = (turn c).loop-changed in
     let begun = (turn c).before.before in
     let m = begun.before.before in
@@ -75,8 +75,8 @@ commit-requires c κs =
       omega (arith, p.1.short),
     )
 
-loop-again : tie.Need-loop-changed-preserved invariant-loop-changed decreases-loop-changed
-loop-again c =
+loop-changed-preserved : tie.Need-loop-changed-preserved invariant-loop-changed decreases-loop-changed
+loop-changed-preserved c =
     let ready = (done c).before in
     let l = (turn ready).loop-changed in
     let begun = (turn ready).before.before in
@@ -103,13 +103,13 @@ fill_spec =
     decreases-loop-changed
     (λ c. search rules) (λ c. search rules) (λ c κs. search rules) (λ c. search rules) (λ c κs. search rules)
     (λ c κs. search rules) (λ c κs. search rules)
-    class-places-requires
+    class_places-places-requires
     (λ c κs. search rules)
-    loop-holds
+    loop-changed-init
     (λ c. omega (arith, few c)) (λ c κs. search rules)
-    commit-requires
+    commit-changed-requires
     (λ c. omega (arith, few (turn (done c).before)))
-    loop-again
+    loop-changed-preserved
     (λ c. omega arith)
     (λ c. some_round c.loop-changed-test.false c.loop-changed.invariant.1.changes)
     (λ c. search rules) (λ c. search rules)

@@ -14,15 +14,15 @@ invariant-loop-m line places₀ m₀ places m = (m ≤ length line) × PlacesBel
 abbrev decreases-loop-m : tie.decreases-loop-m
 decreases-loop-m line places₀ m₀ places m = length line - m
 
-loop-holds : tie.Need-loop-m-init invariant-loop-m decreases-loop-m
-loop-holds c = (omega arith, places_none _)
+loop-m-init : tie.Need-loop-m-init invariant-loop-m decreases-loop-m
+loop-m-init c = (omega arith, places_none _)
 
 -- a token is a class below 128
 token : (c : tie.In-loop-m invariant-loop-m decreases-loop-m) → get_or c.args.line.now c.loop-m.m 0 < 128
 token c = c.requires.tokens c.loop-m.m (omega arith)
 
-loop-again : tie.Need-loop-m-preserved invariant-loop-m decreases-loop-m
-loop-again c =
+loop-m-preserved : tie.Need-loop-m-preserved invariant-loop-m decreases-loop-m
+loop-m-preserved c =
     let l = c.loop-m in
     (omega arith, places_more _ l.m c.insert.result l.places (token c.before.before) c.insert.ensures l.invariant.1)
 
@@ -37,10 +37,10 @@ class_places_spec =
     (tie.spec
     invariant-loop-m
     decreases-loop-m
-    loop-holds
+    loop-m-init
     (λ c. search rules) (λ c. omega (arith, token c.before)) (λ c. omega (arith, token c.before))
     (λ c. token c.before) (λ c κs. search rules)
     (λ c. omega (arith, token c.before.before))
     (λ c. token c.before.before) (λ c. search rules) (λ c. search rules)
-    loop-again
+    loop-m-preserved
     returns)

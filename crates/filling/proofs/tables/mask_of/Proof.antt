@@ -16,15 +16,15 @@ invariant-loop-d symbols mask₀ d₀ mask d = (d ≤ length symbols) × MaskBel
 abbrev decreases-loop-d : tie.decreases-loop-d
 decreases-loop-d symbols mask₀ d₀ mask d = length symbols - d
 
-loop-holds : tie.Need-loop-d-init invariant-loop-d decreases-loop-d
-loop-holds c = (omega arith, mask_none _)
+loop-d-init : tie.Need-loop-d-init invariant-loop-d decreases-loop-d
+loop-d-init c = (omega arith, mask_none _)
 
 -- a symbol is a class or a category below 32
 symbol : (c : tie.In-loop-d invariant-loop-d decreases-loop-d) → get_or c.args.symbols.now c.loop-d.d 0 < 160
 symbol c = c.requires c.loop-d.d (omega arith)
 
-loop-again : tie.Need-loop-d-preserved invariant-loop-d decreases-loop-d
-loop-again c =
+loop-d-preserved : tie.Need-loop-d-preserved invariant-loop-d decreases-loop-d
+loop-d-preserved c =
     let l = c.loop-d in (
       omega arith,
       elim c.if-symbol-ge128.branch [
@@ -37,11 +37,11 @@ loop-again c =
 all : (c : tie.After-loop-d invariant-loop-d decreases-loop-d) → let symbols = c.args.symbols.now in MaskBelow symbols (length symbols) c.loop-d.mask
 all c = let e : c.loop-d.d ≡ length c.args.symbols.now = omega arith in rw e at c.loop-d.invariant.1
 
-returns : tie.Need-returns-then-mask-eq0 invariant-loop-d decreases-loop-d
-returns c = mask_empty _ _ (rw c.if-mask-eq0.true at (all c.before.before)) c.insert.ensures
+returns-then-mask-eq0 : tie.Need-returns-then-mask-eq0 invariant-loop-d decreases-loop-d
+returns-then-mask-eq0 c = mask_empty _ _ (rw c.if-mask-eq0.true at (all c.before.before)) c.insert.ensures
 
-returns-2 : tie.Need-returns-else-mask-eq0 invariant-loop-d decreases-loop-d
-returns-2 c = let after = c.before in mask_some _ _ after.requires (pos_of_ne-zero c.if-mask-eq0.false) (all after)
+returns-else-mask-eq0 : tie.Need-returns-else-mask-eq0 invariant-loop-d decreases-loop-d
+returns-else-mask-eq0 c = let after = c.before in mask_some _ _ after.requires (pos_of_ne-zero c.if-mask-eq0.false) (all after)
 
 pub mask_of_spec : {M : Type 1} → statement M
 mask_of_spec =
@@ -49,11 +49,11 @@ mask_of_spec =
     (tie.spec
     invariant-loop-d
     decreases-loop-d
-    loop-holds
+    loop-d-init
     (λ c. search rules) (λ c. omega (arith, symbol c.before))
     (λ c κs. omega (arith, symbol c.before.before))
     (λ c. search rules) (λ c. search rules)
-    loop-again
+    loop-d-preserved
     (λ c κs. search rules)
-    returns
-    returns-2)
+    returns-then-mask-eq0
+    returns-else-mask-eq0)

@@ -17,8 +17,8 @@ invariant-loop-p g starts rules masks₀ p₀ masks p = (p ≤ rules) × MasksBe
 abbrev decreases-loop-p : tie.decreases-loop-p
 decreases-loop-p g starts rules masks₀ p₀ masks p = rules - p
 
-loop-holds : tie.Need-loop-p-init invariant-loop-p decreases-loop-p
-loop-holds c = (omega arith, masks_none _)
+loop-p-init : tie.Need-loop-p-init invariant-loop-p decreases-loop-p
+loop-p-init c = (omega arith, masks_none _)
 
 -- there are at most 128 rules
 few : (c : tie.In-loop-p invariant-loop-p decreases-loop-p) → c.loop-p.p < 128
@@ -30,14 +30,14 @@ here :
     Found c.args.g.now c.args.s c.loop-p.p (get_or c.args.starts.now c.loop-p.p 0)
 here c = c.requires.1.found c.loop-p.p (omega arith)
 
-mask-of-requires : tie.Need-mask_of-requires invariant-loop-p decreases-loop-p
-mask-of-requires c κs =
+mask_of-requires : tie.Need-mask_of-requires invariant-loop-p decreases-loop-p
+mask_of-requires c κs =
     let turn = c.before.before.before in
     let e = c.rule_symbols.ensures ∙ ap (λ (r : Rule). r.right) (here turn).is in
     rw e (symbol_below _ _ turn.requires.0 turn.loop-p.p (omega arith))
 
-loop-again : tie.Need-loop-p-preserved invariant-loop-p decreases-loop-p
-loop-again c =
+loop-p-preserved : tie.Need-loop-p-preserved invariant-loop-p decreases-loop-p
+loop-p-preserved c =
     let turn = c.before.before.before.before in
     let l = turn.loop-p in
     (omega arith, masks_more _ l.p c.mask_of.result l.masks (few turn) (rw c.rule_symbols.ensures at c.mask_of.ensures) l.invariant.1)
@@ -58,14 +58,14 @@ rule_masks_spec =
     (tie.spec
     invariant-loop-p
     decreases-loop-p
-    loop-holds
+    loop-p-init
     (λ c. omega (arith, few c))
     (λ c. few c.before)
     (λ c κs. (here c.before.before).stands)
-    mask-of-requires
+    mask_of-requires
     (λ c. omega (arith, few c.before.before.before.before))
     (λ c. few c.before.before.before.before)
     (λ c. omega (arith, few c.before.before.before.before))
     (λ c. omega arith)
-    loop-again
+    loop-p-preserved
     returns)

@@ -23,11 +23,11 @@ decreases-loop-start g at d line words width records₀ start₀ records start =
 abbrev entry : tie.At-loop-start invariant-loop-start decreases-loop-start → tie.Start invariant-loop-start decreases-loop-start
 entry c = c.before.before.before.before
 
-loop-holds : tie.Need-loop-start-init invariant-loop-start decreases-loop-start
-loop-holds c = (search rules, sym (total_none _))
+loop-start-init : tie.Need-loop-start-init invariant-loop-start decreases-loop-start
+loop-start-init c = (search rules, sym (total_none _))
 
-add-records : tie.Need-overflow_add-records invariant-loop-start decreases-loop-start
-add-records c =
+overflow_add-records : tie.Need-overflow_add-records invariant-loop-start decreases-loop-start
+overflow_add-records c =
     let turn = c.before.before in
     let e = entry turn in
     let a = e.args in
@@ -36,8 +36,8 @@ add-records c =
     let more = total_next (start_count (grammar_given a.g.now) a.line.now (standing a.g.now a.at).right a.d) l.start in
     omega (arith, c.count_start-records.ensures, l.invariant.1, more, few (l.start + 1) (omega (arith, c.loop-start-test.true)))
 
-loop-again : tie.Need-loop-start-preserved invariant-loop-start decreases-loop-start
-loop-again c =
+loop-start-preserved : tie.Need-loop-start-preserved invariant-loop-start decreases-loop-start
+loop-start-preserved c =
     let turn = c.before.before in
     let a = (entry turn).args in
     let l = c.loop-start in
@@ -57,9 +57,9 @@ count_place_spec =
     invariant-loop-start
     decreases-loop-start
     (λ c. search rules)
-    loop-holds
+    loop-start-init
     (λ c κs. search rules)
-    add-records
+    overflow_add-records
     (λ c. search rules) (λ c. search rules)
-    loop-again
+    loop-start-preserved
     returns)

@@ -23,14 +23,14 @@ decreases-loop-d g at line words places records₀ d₀ records d = places - d
 abbrev entry : tie.At-loop-d invariant-loop-d decreases-loop-d → tie.Start invariant-loop-d decreases-loop-d
 entry c = c.before.before.before.before.before
 
-loop-holds : tie.Need-loop-d-init invariant-loop-d decreases-loop-d
-loop-holds c = (search rules, sym (total_none _))
+loop-d-init : tie.Need-loop-d-init invariant-loop-d decreases-loop-d
+loop-d-init c = (search rules, sym (total_none _))
 
-count-place-requires : tie.Need-count_place-records-requires invariant-loop-d decreases-loop-d
-count-place-requires c κs = let e = entry c.before in (e.requires.0, e.requires.1, omega (arith, c.loop-d-test.true, c.rule_length-places.ensures.0))
+count_place-records-requires : tie.Need-count_place-records-requires invariant-loop-d decreases-loop-d
+count_place-records-requires c κs = let e = entry c.before in (e.requires.0, e.requires.1, omega (arith, c.loop-d-test.true, c.rule_length-places.ensures.0))
 
-add-records : tie.Need-overflow_add-records invariant-loop-d decreases-loop-d
-add-records c =
+overflow_add-records : tie.Need-overflow_add-records invariant-loop-d decreases-loop-d
+overflow_add-records c =
     let turn = c.before.before in
     let e = entry turn in
     let a = e.args in
@@ -39,8 +39,8 @@ add-records c =
     let few = rule_le (grammar_given a.g.now) a.line.now symbols e.requires.0.is_line.short (l.d + 1) (omega (arith, c.loop-d-test.true, c.rule_length-places.ensures.1)) in
     omega (arith, c.count_place-records.ensures, l.invariant.1, total_next (place_count (grammar_given a.g.now) a.line.now symbols) l.d, few)
 
-loop-again : tie.Need-loop-d-preserved invariant-loop-d decreases-loop-d
-loop-again c =
+loop-d-preserved : tie.Need-loop-d-preserved invariant-loop-d decreases-loop-d
+loop-d-preserved c =
     let turn = c.before.before in
     let a = (entry turn).args in
     let l = c.loop-d in
@@ -60,9 +60,9 @@ count_rule_spec =
     invariant-loop-d
     decreases-loop-d
     (λ c κs. c.requires.1.1.found.stands)
-    loop-holds
-    count-place-requires
-    add-records
+    loop-d-init
+    count_place-records-requires
+    overflow_add-records
     (λ c. search rules) (λ c. search rules)
-    loop-again
+    loop-d-preserved
     returns)

@@ -65,25 +65,25 @@ module _ (c : tie.After-first-m invariant-loop-left decreases-loop-left) where
   few : start_count G start.args.line.now symbols start.args.d start.args.start ≤ 4096
   few = start_le G start.args.line.now start.requires.0.is_line.short symbols start.args.d start.args.start _ (omega arith)
 
-prefix-ends-requires : tie.Need-prefix_ends-left-requires invariant-loop-left decreases-loop-left
-prefix-ends-requires c κs = (c.requires.0, c.requires.1, omega (arith, c.requires.2), c.requires.3)
+prefix_ends-left-requires : tie.Need-prefix_ends-left-requires invariant-loop-left decreases-loop-left
+prefix_ends-left-requires c κs = (c.requires.0, c.requires.1, omega (arith, c.requires.2), c.requires.3)
 
-loop-holds : tie.Need-loop-left-init invariant-loop-left decreases-loop-left
-loop-holds c =
+loop-left-init : tie.Need-loop-left-init invariant-loop-left decreases-loop-left
+loop-left-init c =
     let whole = chosen_whole (counts c.args.g.now c.args.at c.args.d c.args.line.now c.args.start) c.prefix_ends-left.result (suc (length c.args.line.now))
     (λ m n. middle_none _ _ c.requires.0.is_line.short _ c.args.d (proper _ _ _ c.requires.0) c.args.start m (λ z. n ((c.prefix_ends-left.ensures m).1 z))) in
     (omega arith, λ m z. z, omega (arith, whole))
 
-symbol-ends-requires : tie.Need-symbol_ends-requires invariant-loop-left decreases-loop-left
-symbol-ends-requires c κs = let e = start c in (e.requires.0, e.requires.1, e.requires.2, short c)
+symbol_ends-requires : tie.Need-symbol_ends-requires invariant-loop-left decreases-loop-left
+symbol_ends-requires c κs = let e = start c in (e.requires.0, e.requires.1, e.requires.2, short c)
 
-add-records : tie.Need-overflow_add-records invariant-loop-left decreases-loop-left
-add-records c =
+overflow_add-records : tie.Need-overflow_add-records invariant-loop-left decreases-loop-left
+overflow_add-records c =
     let f = c.before.before in
     omega (arith, count_le 64 c.symbol_ends.result, c.count.ensures, f.loop-left.invariant.2, few f)
 
-loop-again : tie.Need-loop-left-preserved invariant-loop-left decreases-loop-left
-loop-again c =
+loop-left-preserved : tie.Need-loop-left-preserved invariant-loop-left decreases-loop-left
+loop-left-preserved c =
     let f = c.before.before in
     let l = f.loop-left in
     let e = start f in
@@ -106,13 +106,13 @@ count_start_spec =
     (tie.spec
     invariant-loop-left
     decreases-loop-left
-    prefix-ends-requires
-    loop-holds
+    prefix_ends-left-requires
+    loop-left-init
     (λ c κs. search rules) (λ c. search rules)
-    symbol-ends-requires
+    symbol_ends-requires
     (λ c κs. search rules) (λ c. search rules)
-    add-records
+    overflow_add-records
     (λ c. (turn c.before.before).some)
     (λ c. (turn c.before.before).less)
-    loop-again
+    loop-left-preserved
     returns)

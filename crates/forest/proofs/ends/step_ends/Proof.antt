@@ -20,15 +20,15 @@ decreases-loop-left g at d line words set all₀ left₀ all left = left
 turn : (c : tie.After-first-m invariant-loop-left decreases-loop-left) → Taken c.loop-left.left c.first-m.result
 turn c = taken _ _ c.first-m.ensures (omega (arith, c.loop-left.invariant.0)) c.loop-left-test.true
 
-loop-holds : tie.Need-loop-left-init invariant-loop-left decreases-loop-left
-loop-holds c = (omega arith, λ m z. z, gathered_none _ _ _ (λ m j h l. h) (λ m h. h))
+loop-left-init : tie.Need-loop-left-init invariant-loop-left decreases-loop-left
+loop-left-init c = (omega arith, λ m z. z, gathered_none _ _ _ (λ m j h l. h) (λ m h. h))
 
-symbol-ends-requires : tie.Need-symbol_ends-all-requires invariant-loop-left decreases-loop-left
-symbol-ends-requires c κs =
+symbol_ends-all-requires : tie.Need-symbol_ends-all-requires invariant-loop-left decreases-loop-left
+symbol_ends-all-requires c κs =
     (c.requires.0, c.requires.1, c.requires.2, c.requires.3 _ (c.loop-left.invariant.1 _ (turn c).here))
 
-loop-again : tie.Need-loop-left-preserved invariant-loop-left decreases-loop-left
-loop-again c =
+loop-left-preserved : tie.Need-loop-left-preserved invariant-loop-left decreases-loop-left
+loop-left-preserved c =
     let l = c.loop-left in
     let t = turn c.before in (
       omega (arith, l.invariant.0, t.less),
@@ -45,10 +45,10 @@ step_ends_spec =
     (tie.spec
     invariant-loop-left
     decreases-loop-left
-    loop-holds
+    loop-left-init
     (λ c κs. search rules) (λ c. search rules)
-    symbol-ends-requires
+    symbol_ends-all-requires
     (λ c. (turn c.before).some)
     (λ c. (turn c.before).less)
-    loop-again
+    loop-left-preserved
     returns)

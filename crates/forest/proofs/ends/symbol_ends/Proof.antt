@@ -28,20 +28,20 @@ small c = omega (arith, c.if-symbol-ge128.false, symbol_is c.before)
 few : (c : tie.Then-symbol-ge128) → let a = (entry c.before).args in (get_or c.rule_symbols-symbols.result.now a.d 0 - 128) * (length a.line.now + 1) + a.m < 2048
 few c = let e = entry c.before in rw (symbol_is c.before) (in_few _ _ _ e.requires.0 _ e.requires.1 _ _ e.requires.2 e.requires.3 (big c))
 
-shared-slice-read-result : tie.Need-bounds-words-symbol
-shared-slice-read-result c = let e = entry c.before.before in rw (symbol_is c.before.before) (in_words _ _ _ e.requires.0 _ e.requires.1 _ _ e.requires.2 e.requires.3 (big c.before))
+bounds-words-symbol : tie.Need-bounds-words-symbol
+bounds-words-symbol c = let e = entry c.before.before in rw (symbol_is c.before.before) (in_words _ _ _ e.requires.0 _ e.requires.1 _ _ e.requires.2 e.requires.3 (big c.before))
 
-returns : tie.Need-returns-then-symbol-ge128
-returns c = let e = entry c.before.before in rw (symbol_is c.before.before) (ends_category _ _ _ e.requires.0 _ e.requires.1 _ _ e.requires.2 e.requires.3 (big c.before))
+returns-then-symbol-ge128 : tie.Need-returns-then-symbol-ge128
+returns-then-symbol-ge128 c = let e = entry c.before.before in rw (symbol_is c.before.before) (ends_category _ _ _ e.requires.0 _ e.requires.1 _ _ e.requires.2 e.requires.3 (big c.before))
 
-returns-2 : tie.Need-returns-then-n-m
-returns-2 c = let e = entry c.before.before in ends_past _ _ _ e.requires.0 _ e.requires.1 _ _ e.requires.2 e.requires.3 (small c.before) c.if-n-m.true
+returns-then-n-m : tie.Need-returns-then-n-m
+returns-then-n-m c = let e = entry c.before.before in ends_past _ _ _ e.requires.0 _ e.requires.1 _ _ e.requires.2 e.requires.3 (small c.before) c.if-n-m.true
 
-cast-if3 : tie.Need-overflow_cast-line
-cast-if3 c = omega (arith, c.shared_slice_known-5-1.given c.args.m)
+overflow_cast-line : tie.Need-overflow_cast-line
+overflow_cast-line c = omega (arith, c.shared_slice_known-5-1.given c.args.m)
 
-returns-3 : tie.Need-returns-then-line-m
-returns-3 c =
+returns-then-line-m : tie.Need-returns-then-line-m
+returns-then-line-m c =
     let inside = c.before.before.before.before in
     let e = entry inside in
     ends_other _ _ _ e.requires.0 _ e.requires.1 _ _ e.requires.2 e.requires.3 (small c.before.before.before) (λ q. c.if-line-m.true (q ∙ sym (symbol_is inside)))
@@ -49,8 +49,8 @@ returns-3 c =
 insert-requires : tie.Need-insert-requires
 insert-requires c κs = let e = c in omega (arith, e.requires.3, e.requires.0.is_line.short, c.if-n-m.false)
 
-returns-4 : tie.Need-returns
-returns-4 c =
+returns : tie.Need-returns
+returns c =
     let inside = c.before.before.before.before.before in
     let e = entry inside in
     ends_class _ _ _ e.requires.0 _ e.requires.1 _ _ e.requires.2 e.requires.3 (small c.before.before.before.before) c.if-n-m.false (c.if-line-m.false ∙ symbol_is inside) _ c.insert.ensures
@@ -63,12 +63,12 @@ symbol_ends_spec =
     (λ c. rw c.rule_symbols-symbols.ensures c.requires.2)
     (λ c. omega (arith, c.shared_slice_known-4-1.given c.args.d))
     (λ c. search rules) (λ c. omega (arith, few c)) (λ c. omega (arith, few c)) (λ c. omega (arith, few c))
-    shared-slice-read-result
-    returns
-    returns-2
+    bounds-words-symbol
+    returns-then-symbol-ge128
+    returns-then-n-m
     (λ c. search rules)
-    cast-if3
-    returns-3
+    overflow_cast-line
+    returns-then-line-m
     (λ c. search rules)
     insert-requires
-    returns-4)
+    returns)

@@ -32,8 +32,8 @@ turn c = let e = entry c.before in taken_at _ _ c.loop-m.invariant.0 (omega (ari
 none : (c : tie.At-loop-m invariant-loop-m decreases-loop-m) → let a = (entry c).args in (x j : ℕ) → a.from ≤ x → x < c.loop-m.m → Member a.middles x → SymbolDerives a.g.now a.line.now a.at a.d x j → ⊥
 none c x j a l z v = c.loop-m.invariant.2 x j a z (c.loop-m.invariant.0.none_below x l) v
 
-returns : tie.Need-returns-then-width-from invariant-loop-m decreases-loop-m
-returns c =
+returns-then-width-from : tie.Need-returns-then-width-from invariant-loop-m decreases-loop-m
+returns-then-width-from c =
     record {
       after = omega arith;
       none = λ m j a b z v. omega arith;
@@ -42,16 +42,16 @@ returns c =
       ends = λ z. absurd (omega arith);
     }
 
-loop-holds : tie.Need-loop-m-init invariant-loop-m decreases-loop-m
-loop-holds c =
+loop-m-init : tie.Need-loop-m-init invariant-loop-m decreases-loop-m
+loop-m-init c =
     let m = from_member c.args.middles c.args.from c.ranges.middles.fits in
     (c.first-m.ensures, λ x. (m x).0, λ x j a z n v. n ((m x).1 (z, a)))
 
-symbol-ends-requires : tie.Need-symbol_ends-ends-requires invariant-loop-m decreases-loop-m
-symbol-ends-requires c κs = let e = entry c.before in (e.requires.0, e.requires.1, e.requires.2, omega (arith, c.loop-m-test.true))
+symbol_ends-ends-requires : tie.Need-symbol_ends-ends-requires invariant-loop-m decreases-loop-m
+symbol_ends-ends-requires c κs = let e = entry c.before in (e.requires.0, e.requires.1, e.requires.2, omega (arith, c.loop-m-test.true))
 
-returns-2 : tie.Need-returns-then-ends-ne0 invariant-loop-m decreases-loop-m
-returns-2 c =
+returns-then-ends-ne0 : tie.Need-returns-then-ends-ne0 invariant-loop-m decreases-loop-m
+returns-then-ends-ne0 c =
     let i = c.before.before in
     let here = c.loop-m.invariant.1 _ (turn i).here in
     record {
@@ -62,8 +62,8 @@ returns-2 c =
       ends = λ z. c.symbol_ends-ends.ensures;
     }
 
-loop-again : tie.Need-loop-m-preserved invariant-loop-m decreases-loop-m
-loop-again c =
+loop-m-preserved : tie.Need-loop-m-preserved invariant-loop-m decreases-loop-m
+loop-m-preserved c =
     let i = c.before.before.before in
     let l = c.loop-m in
     let t = turn i in
@@ -74,8 +74,8 @@ loop-again c =
       λ x j a z n v. ⊎_elim (λ h. n ((t.rest x).1 (h, λ q. here x j q v))) (λ h. l.invariant.2 x j a z h v) (member? l.left x),
     )
 
-returns-3 : tie.Need-returns invariant-loop-m decreases-loop-m
-returns-3 c =
+returns : tie.Need-returns invariant-loop-m decreases-loop-m
+returns c =
     let l = c.loop-m in
     let e = entry c.before in
     let low : l.m < e.args.from → ⊥ = λ k. omega (arith, (l.invariant.1 _ (l.invariant.0.found (omega (arith, k, e.requires.3, e.requires.0.is_line.short)))).1) in
@@ -94,12 +94,12 @@ seek_middle_spec =
     invariant-loop-m
     decreases-loop-m
     (λ c. search rules)
-    returns
+    returns-then-width-from
     (λ c. search rules) (λ c. search rules) (λ c κs. search rules) (λ c. search rules)
-    loop-holds
-    symbol-ends-requires
-    returns-2
+    loop-m-init
+    symbol_ends-ends-requires
+    returns-then-ends-ne0
     (λ c. (turn c.before.before).some) (λ c κs. search rules) (λ c. search rules)
     (λ c. (turn c.before.before.before).less)
-    loop-again
-    returns-3)
+    loop-m-preserved
+    returns)

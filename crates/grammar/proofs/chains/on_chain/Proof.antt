@@ -20,30 +20,30 @@ invariant-loop-left words before entry word left₀ left =
 abbrev decreases-loop-left : tie.decreases-loop-left
 decreases-loop-left words before entry word left₀ left = left
 
-loop-holds : tie.Need-loop-left-init invariant-loop-left decreases-loop-left
-loop-holds c = (omega (arith, c.requires.3), λ q h. h, λ q h e. h)
+loop-left-init : tie.Need-loop-left-init invariant-loop-left decreases-loop-left
+loop-left-init c = (omega (arith, c.requires.3), λ q h. h, λ q h e. h)
 
-returns : tie.Need-returns-then-words-left invariant-loop-left decreases-loop-left
-returns c =
+returns-then-words-left : tie.Need-returns-then-words-left invariant-loop-left decreases-loop-left
+returns-then-words-left c =
     (λ t. (c.loop-left.left - 1, c.loop-left.invariant.1 _ (chain_next _ c.loop-left.left c.loop-left-test.true), c.if-words-left.true), λ x. refl)
 
-cast-left : tie.Need-overflow_cast-left invariant-loop-left decreases-loop-left
-cast-left c = omega (arith, c.shared_slice_known-in-loop-left-1.given (c.loop-left.left - 1))
+overflow_cast-left : tie.Need-overflow_cast-left invariant-loop-left decreases-loop-left
+overflow_cast-left c = omega (arith, c.shared_slice_known-in-loop-left-1.given (c.loop-left.left - 1))
 
-loop-less : tie.Need-loop-left-smaller invariant-loop-left decreases-loop-left
-loop-less c =
+loop-left-smaller : tie.Need-loop-left-smaller invariant-loop-left decreases-loop-left
+loop-left-smaller c =
     omega (arith, c.requires.2 (c.loop-left.left - 1), c.loop-left-test.true)
 
-loop-again : tie.Need-loop-left-preserved invariant-loop-left decreases-loop-left
-loop-again c =
+loop-left-preserved : tie.Need-loop-left-preserved invariant-loop-left decreases-loop-left
+loop-left-preserved c =
     let more = c.loop-left-test.true in (
       omega (arith, c.requires.2 (c.loop-left.left - 1), c.loop-left.invariant.0),
       λ q h. c.loop-left.invariant.1 q (chain_later _ c.loop-left.left more h),
       λ q h e. ⊎_elim (λ z. absurd (c.if-words-left.false (rw z at e))) (λ rest. rest) (chain_cases _ c.loop-left.left more (c.loop-left.invariant.2 q h e)),
     )
 
-returns-2 : tie.Need-returns invariant-loop-left decreases-loop-left
-returns-2 c =
+returns : tie.Need-returns invariant-loop-left decreases-loop-left
+returns c =
     let none : c.loop-left.left ≡ 0 = omega (arith, c.loop-left-test.false) in
     (λ t. absurd (false≢true t), λ x. absurd (ended _ (rw none at (c.loop-left.invariant.2 x.0 x.1 x.2))))
 
@@ -53,14 +53,14 @@ on_chain_spec =
     (tie.spec
     invariant-loop-left
     decreases-loop-left
-    loop-holds
+    loop-left-init
     (λ c. search rules)
     (λ c. search rules)
     (λ c. search rules)
-    returns
+    returns-then-words-left
     (λ c. search rules)
     (λ c. search rules)
-    cast-left
-    loop-less
-    loop-again
-    returns-2)
+    overflow_cast-left
+    loop-left-smaller
+    loop-left-preserved
+    returns)

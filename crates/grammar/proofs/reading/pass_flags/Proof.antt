@@ -13,32 +13,32 @@ invariant-loop-left g count at here₀ left₀ here left = flags_from g left her
 abbrev decreases-loop-left : tie.decreases-loop-left
 decreases-loop-left g count at here₀ left₀ here left = left
 
-loop-holds : tie.Need-loop-left-init invariant-loop-left decreases-loop-left
-loop-holds c = refl
+loop-left-init : tie.Need-loop-left-init invariant-loop-left decreases-loop-left
+loop-left-init c = refl
 
-returns : tie.Need-returns-then-g-here invariant-loop-left decreases-loop-left
-returns c = sym (each_short _ _ _ _ _ c.loop-left-test.true c.if-g-here.true) ∙ c.loop-left.invariant
+returns-then-g-here : tie.Need-returns-then-g-here invariant-loop-left decreases-loop-left
+returns-then-g-here c = sym (each_short _ _ _ _ _ c.loop-left-test.true c.if-g-here.true) ∙ c.loop-left.invariant
 
-shared-slice-read-if2 : tie.Need-bounds-g-here invariant-loop-left decreases-loop-left
-shared-slice-read-if2 c = omega arith
+bounds-g-here : tie.Need-bounds-g-here invariant-loop-left decreases-loop-left
+bounds-g-here c = omega arith
 
-returns-2 : tie.Need-returns-then-g-here-gt1 invariant-loop-left decreases-loop-left
-returns-2 c = sym (each_bad _ _ _ _ _ c.loop-left-test.true c.if-g-here.false (lt-leb _ _ c.if-g-here-gt1.true)) ∙ c.loop-left.invariant
+returns-then-g-here-gt1 : tie.Need-returns-then-g-here-gt1 invariant-loop-left decreases-loop-left
+returns-then-g-here-gt1 c = sym (each_bad _ _ _ _ _ c.loop-left-test.true c.if-g-here.false (lt-leb _ _ c.if-g-here-gt1.true)) ∙ c.loop-left.invariant
 
-add-here : tie.Need-overflow_add-here invariant-loop-left decreases-loop-left
-add-here c = omega arith
+overflow_add-here : tie.Need-overflow_add-here invariant-loop-left decreases-loop-left
+overflow_add-here c = omega arith
 
-sub-left : tie.Need-overflow_sub-left invariant-loop-left decreases-loop-left
-sub-left c = omega arith
+overflow_sub-left : tie.Need-overflow_sub-left invariant-loop-left decreases-loop-left
+overflow_sub-left c = omega arith
 
-loop-less : tie.Need-loop-left-smaller invariant-loop-left decreases-loop-left
-loop-less c = omega arith
+loop-left-smaller : tie.Need-loop-left-smaller invariant-loop-left decreases-loop-left
+loop-left-smaller c = omega arith
 
-loop-again : tie.Need-loop-left-preserved invariant-loop-left decreases-loop-left
-loop-again c = sym (each_more _ _ _ _ _ c.loop-left-test.true c.if-g-here.false (le-leb _ _ c.if-g-here-gt1.false)) ∙ c.loop-left.invariant
+loop-left-preserved : tie.Need-loop-left-preserved invariant-loop-left decreases-loop-left
+loop-left-preserved c = sym (each_more _ _ _ _ _ c.loop-left-test.true c.if-g-here.false (le-leb _ _ c.if-g-here-gt1.false)) ∙ c.loop-left.invariant
 
-returns-3 : tie.Need-returns invariant-loop-left decreases-loop-left
-returns-3 c = sym (each_none _ _ _ _ _ c.loop-left-test.false) ∙ c.loop-left.invariant
+returns : tie.Need-returns invariant-loop-left decreases-loop-left
+returns c = sym (each_none _ _ _ _ _ c.loop-left-test.false) ∙ c.loop-left.invariant
 
 pub pass_flags_spec : {M : Type 1} → statement M
 pass_flags_spec =
@@ -46,12 +46,12 @@ pass_flags_spec =
     (tie.spec
     invariant-loop-left
     decreases-loop-left
-    loop-holds
-    returns
-    shared-slice-read-if2
-    returns-2
-    add-here
-    sub-left
-    loop-less
-    loop-again
-    returns-3)
+    loop-left-init
+    returns-then-g-here
+    bounds-g-here
+    returns-then-g-here-gt1
+    overflow_add-here
+    overflow_sub-left
+    loop-left-smaller
+    loop-left-preserved
+    returns)

@@ -8,47 +8,47 @@ use Rattle.grammar.specs.Reading.{rule_from}
 use Rattle.grammar.proofs.reading.pass_rule.Statement.{statement}
 use Rattle.grammar.proofs.reading.pass_rule.Tie as tie
 
-returns : tie.Need-returns-then-g-at
+returns-then-g-at : tie.Need-returns-then-g-at
 unfolding rule_from
-returns c = simp (le-ltb _ _ c.if-g-at.true)
+returns-then-g-at c = simp (le-ltb _ _ c.if-g-at.true)
 
-shared-slice-read-if2 : tie.Need-bounds-g-at
-shared-slice-read-if2 c = search rules
+bounds-g-at : tie.Need-bounds-g-at
+bounds-g-at c = search rules
 
-cast-if2 : tie.Need-overflow_cast-g
-cast-if2 c = omega (arith, c.shared_slice_known-2-1.given c.args.at)
+overflow_cast-g : tie.Need-overflow_cast-g
+overflow_cast-g c = omega (arith, c.shared_slice_known-2-1.given c.args.at)
 
-returns-2 : tie.Need-returns-then-n-g
+returns-then-n-g : tie.Need-returns-then-n-g
 unfolding rule_from
-returns-2 c = simp (lt-ltb _ _ c.if-g-at.false, le-ltb _ _ c.if-n-g.true)
+returns-then-n-g c = simp (lt-ltb _ _ c.if-g-at.false, le-ltb _ _ c.if-n-g.true)
 
-add-next : tie.Need-overflow_add-next
-add-next c = search rules
+overflow_add-next : tie.Need-overflow_add-next
+overflow_add-next c = search rules
 
-returns-3 : tie.Need-returns-then-g-next
+returns-then-g-next : tie.Need-returns-then-g-next
 unfolding rule_from
-returns-3 c = simp (lt-ltb _ _ c.if-g-at.false, lt-ltb _ _ c.if-n-g.false, le-ltb _ _ c.if-g-next.true)
+returns-then-g-next c = simp (lt-ltb _ _ c.if-g-at.false, lt-ltb _ _ c.if-n-g.false, le-ltb _ _ c.if-g-next.true)
 
-shared-slice-read-k : tie.Need-bounds-g-next
-shared-slice-read-k c = search rules
+bounds-g-next : tie.Need-bounds-g-next
+bounds-g-next c = search rules
 
-cast-k : tie.Need-overflow_cast-k
-cast-k c = omega (arith, c.shared_slice_known-3-1.given (c.args.at + 1))
+overflow_cast-k : tie.Need-overflow_cast-k
+overflow_cast-k c = omega (arith, c.shared_slice_known-3-1.given (c.args.at + 1))
 
-returns-4 : tie.Need-returns-then-k-gt8
+returns-then-k-gt8 : tie.Need-returns-then-k-gt8
 unfolding rule_from
-returns-4 c =
+returns-then-k-gt8 c =
     simp (lt-ltb _ _ c.if-g-at.false, lt-ltb _ _ c.if-n-g.false, lt-ltb _ _ c.if-g-next.false, lt-leb _ _ c.if-k-gt8.true)
 
-add-pass-symbols : tie.Need-overflow_add-at
-add-pass-symbols c = search rules
+overflow_add-at : tie.Need-overflow_add-at
+overflow_add-at c = search rules
 
-pass-symbols-requires : tie.Need-pass_symbols-requires
-pass-symbols-requires c κs = search rules
+pass_symbols-requires : tie.Need-pass_symbols-requires
+pass_symbols-requires c κs = search rules
 
-returns-5 : tie.Need-returns
+returns : tie.Need-returns
 unfolding rule_from standing
-returns-5 c =
+returns c =
     simp (lt-ltb _ _ c.if-g-at.false, lt-ltb _ _ c.if-n-g.false, lt-ltb _ _ c.if-g-next.false, le-leb _ _ c.if-k-gt8.false)
     c.pass_symbols.ensures
 
@@ -56,15 +56,15 @@ pub pass_rule_spec : {M : Type 1} → statement M
 pass_rule_spec =
     tie.close
     (tie.spec
-    returns
-    shared-slice-read-if2
-    cast-if2
-    returns-2
-    add-next
-    returns-3
-    shared-slice-read-k
-    cast-k
-    returns-4
-    add-pass-symbols
-    pass-symbols-requires
-    returns-5)
+    returns-then-g-at
+    bounds-g-at
+    overflow_cast-g
+    returns-then-n-g
+    overflow_add-next
+    returns-then-g-next
+    bounds-g-next
+    overflow_cast-k
+    returns-then-k-gt8
+    overflow_add-at
+    pass_symbols-requires
+    returns)

@@ -36,11 +36,11 @@ invariant-loop-p g t n count first words₀ before₀ latest₀ here₀ p₀ wor
 abbrev decreases-loop-p : tie.decreases-loop-p
 decreases-loop-p g t n count first words₀ before₀ latest₀ here₀ p₀ words before latest here p = count - p
 
-loop-holds : tie.Need-loop-p-init invariant-loop-p decreases-loop-p
-loop-holds c = let z : c.args.count - 0 ≡ c.args.count = omega arith in record { few = omega arith; rules = []; many = refl; kept = kept_none; rest = rw z }
+loop-p-init : tie.Need-loop-p-init invariant-loop-p decreases-loop-p
+loop-p-init c = let z : c.args.count - 0 ≡ c.args.count = omega arith in record { few = omega arith; rules = []; many = refl; kept = kept_none; rest = rw z }
 
-returns : tie.Need-returns-in-Stop invariant-loop-p decreases-loop-p
-returns c =
+returns-in-Stop : tie.Need-returns-in-Stop invariant-loop-p decreases-loop-p
+returns-in-Stop c =
     let l = c.loop-p in
     let stopped = given_stop _ _ (sym c.pass_rule.ensures ∙ c.in-Stop.is) in
     sym (rules_stop _ _ _ l.invariant.rules _ l.p l.here _ c.loop-p-test.true stopped) ∙ l.invariant.rest
@@ -75,12 +75,12 @@ plain s = passed_plain _ _ _ _ s.requires.0 s.requires.1 (passed s)
 abbrev chain : Passed → ℕ
 chain s = byte (bytes s) (here s) * 37 + word s % 37
 
-chain-is : (s : Passed) → chain s ≡ chain_for (standing (bytes s) (here s))
+chain_is : (s : Passed) → chain s ≡ chain_for (standing (bytes s) (here s))
 unfolding standing
-chain-is s = ap (λ (w : ℕ). byte (bytes s) (here s) * 37 + w % 37) (sym (given s).1)
+chain_is s = ap (λ (w : ℕ). byte (bytes s) (here s) * 37 + w % 37) (sym (given s).1)
 
-chain-low : (s : Passed) → chain s < 1184
-chain-low s = rw (chain-is s) (chain_few _ (plain s))
+chain_low : (s : Passed) → chain s < 1184
+chain_low s = rw (chain_is s) (chain_few _ (plain s))
 
 few : (s : Passed) → s.loop-p.p < 128
 few s = omega (arith, s.loop-p-test.true, s.requires.2)
@@ -88,32 +88,32 @@ few s = omega (arith, s.loop-p-test.true, s.requires.2)
 abbrev head : Passed → ℕ
 head s = get_or s.loop-p.latest (chain s) 0
 
-head-low : (s : Passed) → head s ≤ 128
-head-low s = let l = s.loop-p in omega (arith, kept_entry _ _ _ _ l.invariant.kept (chain s), l.invariant.many, few s)
+head_low : (s : Passed) → head s ≤ 128
+head_low s = let l = s.loop-p in omega (arith, kept_entry _ _ _ _ l.invariant.kept (chain s), l.invariant.many, few s)
 
 -- the rule repeats an earlier one exactly when its word is on its chain
 repeated :
     (s : Passed) → let l = s.loop-p in
     ((q : ℕ) × OnChain l.before (head s) q × (get_or l.words q 0 ≡ word s)) ↔ (is_repeated (standing (bytes s) (here s)) l.invariant.rules ≡ true)
-repeated s = kept_repeated _ _ _ _ s.loop-p.invariant.kept (standing (bytes s) (here s)) (plain s) (word s) (chain s) (given s).1 (chain-is s)
+repeated s = kept_repeated _ _ _ _ s.loop-p.invariant.kept (standing (bytes s) (here s)) (plain s) (word s) (chain s) (given s).1 (chain_is s)
 
-cast-chain : tie.Need-overflow_cast-chain invariant-loop-p decreases-loop-p
-cast-chain c = omega (arith, chain-low c.before)
+overflow_cast-chain : tie.Need-overflow_cast-chain invariant-loop-p decreases-loop-p
+overflow_cast-chain c = omega (arith, chain_low c.before)
 
-mul-chain : tie.Need-overflow_mul-chain invariant-loop-p decreases-loop-p
-mul-chain c = omega (arith, chain-low c.before)
+overflow_mul-chain : tie.Need-overflow_mul-chain invariant-loop-p decreases-loop-p
+overflow_mul-chain c = omega (arith, chain_low c.before)
 
-add-chain : tie.Need-overflow_add-chain invariant-loop-p decreases-loop-p
-add-chain c = omega (arith, chain-low c.before)
+overflow_add-chain : tie.Need-overflow_add-chain invariant-loop-p decreases-loop-p
+overflow_add-chain c = omega (arith, chain_low c.before)
 
-on-chain-requires : tie.Need-on_chain-requires invariant-loop-p decreases-loop-p
-on-chain-requires c κs =
+on_chain-requires : tie.Need-on_chain-requires invariant-loop-p decreases-loop-p
+on_chain-requires c κs =
     let s = c.before.before.before in
     let k = s.loop-p.invariant.kept in
-    (k.words_long, k.before_long, k.falls, head-low s)
+    (k.words_long, k.before_long, k.falls, head_low s)
 
-returns-2 : tie.Need-returns-then-on_chain invariant-loop-p decreases-loop-p
-returns-2 c =
+returns-then-on_chain : tie.Need-returns-then-on_chain invariant-loop-p decreases-loop-p
+returns-then-on_chain c =
     let s = c.before.before.before.before.before in
     let l = s.loop-p in
     let same = (repeated s).0 (c.on_chain.ensures.0 c.if-on_chain.true) in
@@ -126,8 +126,8 @@ found c = c.before.before.before.before.before
 new : (c : tie.Else-on_chain invariant-loop-p decreases-loop-p) → is_repeated (standing (bytes (found c)) (here (found c))) ((found c)).loop-p.invariant.rules ≡ false
 new c = repeated_not _ _ (λ e. false≢true (sym c.if-on_chain.false ∙ c.on_chain.ensures.1 ((repeated (found c)).1 e)))
 
-loop-again : tie.Need-loop-p-preserved invariant-loop-p decreases-loop-p
-loop-again c =
+loop-p-preserved : tie.Need-loop-p-preserved invariant-loop-p decreases-loop-p
+loop-p-preserved c =
     let s = found c in
     let l = s.loop-p in
     let rule = standing (bytes s) (here s) in
@@ -135,12 +135,12 @@ loop-again c =
       few = omega arith;
       rules = l.invariant.rules ++ (rule ∷ []);
       many = length-append l.invariant.rules (rule ∷ []) ∙ ap (λ (k : ℕ). k + 1) l.invariant.many;
-      kept = kept_more _ _ _ _ l.invariant.kept rule (plain s) (omega (arith, l.invariant.many, few s)) l.p (word s) (chain s) l.invariant.many (given s).1 (chain-is s);
+      kept = kept_more _ _ _ _ l.invariant.kept rule (plain s) (omega (arith, l.invariant.many, few s)) l.p (word s) (chain s) l.invariant.many (given s).1 (chain_is s);
       rest = sym (rules_more _ _ _ l.invariant.rules _ l.p l.here _ s.loop-p-test.true (given s).0 (new c)) ∙ l.invariant.rest;
     }
 
-returns-3 : tie.Need-returns invariant-loop-p decreases-loop-p
-returns-3 c = sym (rules_none _ _ _ c.loop-p.invariant.rules _ _ _ c.loop-p-test.false) ∙ c.loop-p.invariant.rest
+returns : tie.Need-returns invariant-loop-p decreases-loop-p
+returns c = sym (rules_none _ _ _ c.loop-p.invariant.rules _ _ _ c.loop-p-test.false) ∙ c.loop-p.invariant.rest
 
 pub pass_rules_spec : {M : Type 1} → statement M
 pass_rules_spec =
@@ -148,27 +148,27 @@ pass_rules_spec =
     (tie.spec
     invariant-loop-p
     decreases-loop-p
-    loop-holds
+    loop-p-init
     (λ c κs. search rules)
     (λ c. search rules)
-    returns
+    returns-in-Stop
     (λ c. search rules)
     (λ c. omega (arith, (passed c.before).stands.inside))
-    cast-chain
-    mul-chain
-    add-chain
-    (λ c. chain-low c.before)
+    overflow_cast-chain
+    overflow_mul-chain
+    overflow_add-chain
+    (λ c. chain_low c.before)
     (λ c. search rules)
     (λ c. search rules)
-    (λ c. omega (arith, head-low c.before.before.before))
-    on-chain-requires
-    returns-2
+    (λ c. omega (arith, head_low c.before.before.before))
+    on_chain-requires
+    returns-then-on_chain
     (λ c. omega (arith, few (found c)))
     (λ c. few (found c))
     (λ c. few (found c))
     (λ c. search rules)
     (λ c. omega (arith, few (found c)))
-    (λ c. chain-low (found c))
+    (λ c. chain_low (found c))
     (λ c. search rules)
-    loop-again
-    returns-3)
+    loop-p-preserved
+    returns)

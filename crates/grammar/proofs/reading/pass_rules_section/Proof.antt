@@ -6,29 +6,29 @@ use Rattle.grammar.specs.Reading.{rules_section}
 use Rattle.grammar.proofs.reading.pass_rules_section.Statement.{statement}
 use Rattle.grammar.proofs.reading.pass_rules_section.Tie as tie
 
-returns : tie.Need-returns-then-g-at
+returns-then-g-at : tie.Need-returns-then-g-at
 unfolding rules_section
-returns c = simp (le-ltb _ _ c.if-g-at.true)
+returns-then-g-at c = simp (le-ltb _ _ c.if-g-at.true)
 
-shared-slice-read-count : tie.Need-bounds-g-at
-shared-slice-read-count c = search rules
+bounds-g-at : tie.Need-bounds-g-at
+bounds-g-at c = search rules
 
-cast-count : tie.Need-overflow_cast-count
-cast-count c = omega (arith, c.shared_slice_known-2-1.given c.args.at)
+overflow_cast-count : tie.Need-overflow_cast-count
+overflow_cast-count c = omega (arith, c.shared_slice_known-2-1.given c.args.at)
 
-returns-2 : tie.Need-returns-then-count-gt128
+returns-then-count-gt128 : tie.Need-returns-then-count-gt128
 unfolding rules_section
-returns-2 c = simp (lt-ltb _ _ c.if-g-at.false, lt-leb _ _ c.if-count-gt128.true)
+returns-then-count-gt128 c = simp (lt-ltb _ _ c.if-g-at.false, lt-leb _ _ c.if-count-gt128.true)
 
-add-pass-rules : tie.Need-overflow_add-at
-add-pass-rules c = search rules
+overflow_add-at : tie.Need-overflow_add-at
+overflow_add-at c = search rules
 
-pass-rules-requires : tie.Need-pass_rules-requires
-pass-rules-requires c κs = search rules
+pass_rules-requires : tie.Need-pass_rules-requires
+pass_rules-requires c κs = search rules
 
-returns-3 : tie.Need-returns
+returns : tie.Need-returns
 unfolding rules_section
-returns-3 c =
+returns c =
     simp (lt-ltb _ _ c.if-g-at.false, le-leb _ _ c.if-count-gt128.false)
     c.pass_rules.ensures
 
@@ -36,10 +36,10 @@ pub pass_rules_section_spec : {M : Type 1} → statement M
 pass_rules_section_spec =
     tie.close
     (tie.spec
-    returns
-    shared-slice-read-count
-    cast-count
-    returns-2
-    add-pass-rules
-    pass-rules-requires
-    returns-3)
+    returns-then-g-at
+    bounds-g-at
+    overflow_cast-count
+    returns-then-count-gt128
+    overflow_add-at
+    pass_rules-requires
+    returns)

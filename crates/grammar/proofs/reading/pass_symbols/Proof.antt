@@ -23,11 +23,11 @@ invariant-loop-left g t n count at here₀ left₀ word₀ here left word =
 abbrev decreases-loop-left : tie.decreases-loop-left
 decreases-loop-left g t n count at here₀ left₀ word₀ here left word = left
 
-loop-holds : tie.Need-loop-left-init invariant-loop-left decreases-loop-left
-loop-holds c = (omega arith, fits_none c.args.count c.requires.2, refl)
+loop-left-init : tie.Need-loop-left-init invariant-loop-left decreases-loop-left
+loop-left-init c = (omega arith, fits_none c.args.count c.requires.2, refl)
 
-returns : tie.Need-returns-then-g-here invariant-loop-left decreases-loop-left
-returns c = sym (word_stop _ (each_short _ _ _ _ _ c.loop-left-test.true c.if-g-here.true)) ∙ c.loop-left.invariant.2
+returns-then-g-here : tie.Need-returns-then-g-here invariant-loop-left decreases-loop-left
+returns-then-g-here c = sym (word_stop _ (each_short _ _ _ _ _ c.loop-left-test.true c.if-g-here.true)) ∙ c.loop-left.invariant.2
 
 -- the moment when the symbol here was found to be right, the turn of the loop in which that is, and the function's entry
 abbrev Right : Type 0
@@ -39,8 +39,8 @@ turn c = c.before.before.before.before
 abbrev entry : Right → tie.Start invariant-loop-left decreases-loop-left
 entry c = (turn c).before.before.before
 
-returns-2 : tie.Need-returns-then-not-is_symbol invariant-loop-left decreases-loop-left
-returns-2 c =
+returns-then-not-is_symbol : tie.Need-returns-then-not-is_symbol invariant-loop-left decreases-loop-left
+returns-then-not-is_symbol c =
     sym (word_stop _ (each_bad _ _ _ _ _ c.loop-left-test.true c.if-g-here.false (sym c.is_symbol.ensures ∙ not-true _ c.if-not-is_symbol.true-raw))) ∙ c.loop-left.invariant.2
 
 abbrev symbol : Right → ℕ
@@ -56,8 +56,8 @@ small c = symbol_small (entry c).args.t (entry c).args.n (symbol c) (entry c).re
 fits : (c : Right) → let l = (turn c).loop-left in (l.word * 256 + (symbol c + 1) < 2 ^ 64) × Fits (l.word * 256 + (symbol c + 1)) (l.left - 1)
 fits c = let l = (turn c).loop-left in fits_next l.word l.left (symbol c) (turn c).loop-left-test.true (small c) l.invariant.1
 
-loop-again : tie.Need-loop-left-preserved invariant-loop-left decreases-loop-left
-loop-again c =
+loop-left-preserved : tie.Need-loop-left-preserved invariant-loop-left decreases-loop-left
+loop-left-preserved c =
     let l = (turn c).loop-left in
     let more = (turn c).loop-left-test.true in
     let room = c.if-g-here.false in (
@@ -66,8 +66,8 @@ loop-again c =
       sym (ap₂ with_word (each_more _ _ _ _ _ more room (right c)) (word_step _ l.word l.left l.here more room)) ∙ l.invariant.2,
     )
 
-returns-3 : tie.Need-returns invariant-loop-left decreases-loop-left
-returns-3 c =
+returns : tie.Need-returns invariant-loop-left decreases-loop-left
+returns c =
     let l = c.loop-left in
     sym (word_to _ (each_none _ _ _ _ _ c.loop-left-test.false) ∙ ap (λ (word : ℕ). rule.To l.here word) (word_none _ l.word l.left c.loop-left-test.false)) ∙ l.invariant.2
 
@@ -77,11 +77,11 @@ pass_symbols_spec =
     (tie.spec
     invariant-loop-left
     decreases-loop-left
-    loop-holds
-    returns
+    loop-left-init
+    returns-then-g-here
     (λ c. search rules)
     (λ c κs. search rules)
-    returns-2
+    returns-then-not-is_symbol
     (λ c. omega (arith, (fits c).0))
     (λ c. omega (arith, small c))
     (λ c. omega (arith, small c))
@@ -89,5 +89,5 @@ pass_symbols_spec =
     (λ c. search rules)
     (λ c. search rules)
     (λ c. search rules)
-    loop-again
-    returns-3)
+    loop-left-preserved
+    returns)

@@ -4,11 +4,11 @@ use Rattle.grammar.proofs.Accepted.{whole, category_flag_is}
 use Rattle.grammar.proofs.rules.category_flag.Statement.{statement}
 use Rattle.grammar.proofs.rules.category_flag.Tie as tie
 
-add-result : tie.Need-overflow_add-result
-add-result c = omega (arith, whole _ _ c.requires.0)
+overflow_add-result : tie.Need-overflow_add-result
+overflow_add-result c = omega (arith, whole _ _ c.requires.0)
 
-shared-slice-read-result : tie.Need-bounds-g-flags
-shared-slice-read-result c = omega (arith, whole _ _ c.requires.0)
+bounds-g-flags : tie.Need-bounds-g-flags
+bounds-g-flags c = omega (arith, whole _ _ c.requires.0)
 
 returns : tie.Need-returns
 returns c =
@@ -16,4 +16,4 @@ returns c =
     (category_flag_is _ _ h.0 _ h.1, (whole _ _ h.0).category_flags _ h.1)
 
 pub category_flag_spec : {M : Type 1} → statement M
-category_flag_spec = tie.close (tie.spec add-result shared-slice-read-result returns)
+category_flag_spec = tie.close (tie.spec overflow_add-result bounds-g-flags returns)

@@ -5,11 +5,11 @@ use Rattle.grammar.proofs.Accepted.{whole, class_flag_is}
 use Rattle.grammar.proofs.rules.class_flag.Statement.{statement}
 use Rattle.grammar.proofs.rules.class_flag.Tie as tie
 
-add-result : tie.Need-overflow_add-result
-add-result c = search rules
+overflow_add-result : tie.Need-overflow_add-result
+overflow_add-result c = search rules
 
-shared-slice-read-result : tie.Need-bounds-g-class
-shared-slice-read-result c = omega (arith, whole _ _ c.requires.0)
+bounds-g-class : tie.Need-bounds-g-class
+bounds-g-class c = omega (arith, whole _ _ c.requires.0)
 
 returns : tie.Need-returns
 returns c =
@@ -17,4 +17,4 @@ returns c =
     (class_flag_is _ _ h.0 _ h.1, (whole _ _ h.0).class_flags _ h.1)
 
 pub class_flag_spec : {M : Type 1} → statement M
-class_flag_spec = tie.close (tie.spec add-result shared-slice-read-result returns)
+class_flag_spec = tie.close (tie.spec overflow_add-result bounds-g-class returns)

@@ -4,11 +4,11 @@ use Rattle.grammar.proofs.Accepted.{left_is}
 use Rattle.grammar.proofs.rules.rule_left.Statement.{statement}
 use Rattle.grammar.proofs.rules.rule_left.Tie as tie
 
-shared-slice-read-result : tie.Need-bounds-g-at
-shared-slice-read-result c = search rules
+bounds-g-at : tie.Need-bounds-g-at
+bounds-g-at c = search rules
 
 returns : tie.Need-returns
 returns c = left_is _ _ c.requires
 
 pub rule_left_spec : {M : Type 1} → statement M
-rule_left_spec = tie.close (tie.spec shared-slice-read-result returns)
+rule_left_spec = tie.close (tie.spec bounds-g-at returns)

@@ -39,8 +39,8 @@ invariant-loop-p g rules starts₀ at₀ p₀ starts at p = (p ≤ rules) × (at
 abbrev decreases-loop-p : tie.decreases-loop-p
 decreases-loop-p g rules starts₀ at₀ p₀ starts at p = rules - p
 
-loop-holds : tie.Need-loop-p-init invariant-loop-p decreases-loop-p
-loop-holds c = (omega arith, sym (start_none _ _), filled_none _)
+loop-p-init : tie.Need-loop-p-init invariant-loop-p decreases-loop-p
+loop-p-init c = (omega arith, sym (start_none _ _), filled_none _)
 
 -- there are at most 128 rules
 few : (c : tie.In-loop-p invariant-loop-p decreases-loop-p) → c.loop-p.p < 128
@@ -50,23 +50,23 @@ few c = omega (arith, (whole _ _ c.requires).rules_high)
 here : (c : tie.In-loop-p invariant-loop-p decreases-loop-p) → Stands c.args.g.now c.loop-p.at
 here c = rw c.loop-p.invariant.1 (found _ _ c.requires c.loop-p.p (omega arith)).stands
 
-mul-starts : tie.Need-offset_bounds-starts-p invariant-loop-p decreases-loop-p
-mul-starts c = omega (arith, few c)
+offset_bounds-starts-p : tie.Need-offset_bounds-starts-p invariant-loop-p decreases-loop-p
+offset_bounds-starts-p c = omega (arith, few c)
 
-array-write-starts : tie.Need-bounds-starts-p invariant-loop-p decreases-loop-p
-array-write-starts c = omega (arith, few c)
+bounds-starts-p : tie.Need-bounds-starts-p invariant-loop-p decreases-loop-p
+bounds-starts-p c = omega (arith, few c)
 
-rule-after-requires : tie.Need-rule_after-at-requires invariant-loop-p decreases-loop-p
-rule-after-requires c κs = here c
+rule_after-at-requires : tie.Need-rule_after-at-requires invariant-loop-p decreases-loop-p
+rule_after-at-requires c κs = here c
 
-add-p : tie.Need-overflow_add-p invariant-loop-p decreases-loop-p
-add-p c = omega arith
+overflow_add-p : tie.Need-overflow_add-p invariant-loop-p decreases-loop-p
+overflow_add-p c = omega arith
 
-loop-less : tie.Need-loop-p-smaller invariant-loop-p decreases-loop-p
-loop-less c = omega arith
+loop-p-smaller : tie.Need-loop-p-smaller invariant-loop-p decreases-loop-p
+loop-p-smaller c = omega arith
 
-loop-again : tie.Need-loop-p-preserved invariant-loop-p decreases-loop-p
-loop-again c =
+loop-p-preserved : tie.Need-loop-p-preserved invariant-loop-p decreases-loop-p
+loop-p-preserved c =
     let l = c.loop-p in
     let e = c.rule_after-at.ensures ∙ ap (after c.args.g.now) l.invariant.1 ∙ sym (start_more _ l.p _) in
     (omega arith, e, filled_more _ l.p l.at _ (few c.before) l.invariant.1 l.invariant.2)
@@ -87,11 +87,11 @@ rule_starts_spec =
     (tie.spec
     invariant-loop-p
     decreases-loop-p
-    loop-holds
-    mul-starts
-    array-write-starts
-    rule-after-requires
-    add-p
-    loop-less
-    loop-again
+    loop-p-init
+    offset_bounds-starts-p
+    bounds-starts-p
+    rule_after-at-requires
+    overflow_add-p
+    loop-p-smaller
+    loop-p-preserved
     returns)

@@ -15,11 +15,11 @@ invariant-loop-rest n count₀ rest₀ count rest = (count + length (decimal res
 abbrev decreases-loop-rest : tie.decreases-loop-rest
 decreases-loop-rest n count₀ rest₀ count rest = rest
 
-loop-holds : tie.Need-loop-rest-init invariant-loop-rest decreases-loop-rest
-loop-holds c = (omega arith, omega arith)
+loop-rest-init : tie.Need-loop-rest-init invariant-loop-rest decreases-loop-rest
+loop-rest-init c = (omega arith, omega arith)
 
-loop-again : tie.Need-loop-rest-preserved invariant-loop-rest decreases-loop-rest
-loop-again c =
+loop-rest-preserved : tie.Need-loop-rest-preserved invariant-loop-rest decreases-loop-rest
+loop-rest-preserved c =
     let l = c.loop-rest in
     (omega (arith, l.invariant.0, decimal_length l.rest c.loop-rest-test.true), omega (arith, l.invariant.1))
 
@@ -34,7 +34,7 @@ digit_count_spec =
     (tie.spec
     invariant-loop-rest
     decreases-loop-rest
-    loop-holds
+    loop-rest-init
     (λ c. omega (arith, c.loop-rest.invariant.1)) (λ c. omega arith)
-    loop-again
+    loop-rest-preserved
     returns)

@@ -18,22 +18,22 @@ invariant-loop-rest out₀ at n end place₀ rest₀ out place rest =
 abbrev decreases-loop-rest : tie.decreases-loop-rest
 decreases-loop-rest out₀ at n end place₀ rest₀ out place rest = rest
 
-sub-place : tie.Need-overflow_sub-place invariant-loop-rest decreases-loop-rest
-sub-place c = omega (arith, c.digit_count.ensures, decimal_some c.args.n)
+overflow_sub-place : tie.Need-overflow_sub-place invariant-loop-rest decreases-loop-rest
+overflow_sub-place c = omega (arith, c.digit_count.ensures, decimal_some c.args.n)
 
-loop-holds : tie.Need-loop-rest-init invariant-loop-rest decreases-loop-rest
-loop-holds c =
+loop-rest-init : tie.Need-loop-rest-init invariant-loop-rest decreases-loop-rest
+loop-rest-init c =
     let count = c.digit_count.ensures in
     let some = decimal_some c.args.n in
     (omega (arith, count, some), omega (arith, count, some, c.requires), refl, refl)
 
-sub-place-2 : tie.Need-overflow_sub-place-in-loop-rest invariant-loop-rest decreases-loop-rest
-sub-place-2 c =
+overflow_sub-place-in-loop-rest : tie.Need-overflow_sub-place-in-loop-rest invariant-loop-rest decreases-loop-rest
+overflow_sub-place-in-loop-rest c =
     let l = c.loop-rest in
     omega (arith, l.invariant.0, decimal_length l.rest c.loop-rest-test.true, decimal_some (l.rest / 10))
 
-loop-again : tie.Need-loop-rest-preserved invariant-loop-rest decreases-loop-rest
-loop-again c =
+loop-rest-preserved : tie.Need-loop-rest-preserved invariant-loop-rest decreases-loop-rest
+loop-rest-preserved c =
     let l = c.loop-rest in
     let h = c.loop-rest-test.true in
     let shorter = decimal_length l.rest h in
@@ -59,13 +59,13 @@ write_decimal_spec =
     invariant-loop-rest
     decreases-loop-rest
     (λ c κs. search rules) (λ c. search rules)
-    sub-place
-    loop-holds
+    overflow_sub-place
+    loop-rest-init
     (λ c. search rules) (λ c. search rules)
     (λ c. let l = c.loop-rest in omega (arith, l.invariant.1, l.invariant.2))
-    sub-place-2
+    overflow_sub-place-in-loop-rest
     (λ c. omega arith)
-    loop-again
+    loop-rest-preserved
     (λ c. search rules) (λ c. search rules)
     (λ c. let l = c.loop-rest in omega (arith, l.invariant.1, l.invariant.2))
     (λ c. rw length-set c.loop-rest.invariant.2)

@@ -18,29 +18,29 @@ invariant-loop-t out₀ at marks n t₀ out t = (t ≤ n) × Stored out₀ at (m
 abbrev decreases-loop-t : tie.decreases-loop-t
 decreases-loop-t out₀ at marks n t₀ out t = n - t
 
-loop-holds : tie.Need-loop-t-init invariant-loop-t decreases-loop-t
-loop-holds c = (omega arith, rw add-zero (stored_none _ _))
+loop-t-init : tie.Need-loop-t-init invariant-loop-t decreases-loop-t
+loop-t-init c = (omega arith, rw add-zero (stored_none _ _))
 
-add-out : tie.Need-overflow_add-out invariant-loop-t decreases-loop-t
-add-out c = omega (arith, c.requires.2 c.loop-t.t c.loop-t-test.true)
+overflow_add-out : tie.Need-overflow_add-out invariant-loop-t decreases-loop-t
+overflow_add-out c = omega (arith, c.requires.2 c.loop-t.t c.loop-t-test.true)
 
-slice-write-out : tie.Need-bounds-out-at invariant-loop-t decreases-loop-t
-slice-write-out c =
+bounds-out-at : tie.Need-bounds-out-at invariant-loop-t decreases-loop-t
+bounds-out-at c =
     let l = c.loop-t in
     let pre = c.requires in
     let long = stored_long (omega (arith, digits_long c.args.marks.now l.t (omega (arith, l.invariant.0, pre.0)), l.invariant.0, pre.1)) l.invariant.1 in
     omega (arith, long, pre.1, c.loop-t-test.true)
 
-loop-again : tie.Need-loop-t-preserved invariant-loop-t decreases-loop-t
-loop-again c =
+loop-t-preserved : tie.Need-loop-t-preserved invariant-loop-t decreases-loop-t
+loop-t-preserved c =
     let l = c.loop-t in
     let pre = c.requires in
     let marks = c.args.marks.now in
     let part = digits_long marks l.t (omega (arith, l.invariant.0, pre.0)) in
     (omega arith, rw (digits_more marks l.t (omega (arith, pre.0, c.loop-t-test.true)), ← add_assoc) (stored_more _ (omega (arith, part, pre.1, c.loop-t-test.true)) l.invariant.1))
 
-same_length : tie.Need-shape_of-out invariant-loop-t decreases-loop-t
-same_length c =
+shape_of-out : tie.Need-shape_of-out invariant-loop-t decreases-loop-t
+shape_of-out c =
     let l = c.loop-t in
     let pre = c.requires in
     stored_long (omega (arith, digits_long c.args.marks.now l.t (omega (arith, l.invariant.0, pre.0)), l.invariant.0, pre.1)) l.invariant.1
@@ -57,13 +57,13 @@ write_digits_spec =
     (tie.spec
     invariant-loop-t
     decreases-loop-t
-    loop-holds
+    loop-t-init
     (λ c. omega (arith, c.requires.0))
-    add-out
+    overflow_add-out
     (λ c. search rules)
-    slice-write-out
+    bounds-out-at
     (λ c. search rules) (λ c. search rules)
-    loop-again
+    loop-t-preserved
     (λ c. search rules)
-    same_length
+    shape_of-out
     returns)

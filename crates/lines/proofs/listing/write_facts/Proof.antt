@@ -22,11 +22,11 @@ decreases-loop-q out₀ at depths numbers width place₀ q₀ out place q = numb
 few : (c : tie.After-shared_slice_known-1 invariant-loop-q decreases-loop-q) → let a = c.args in (k : ℕ) → k < a.numbers → length (fact_line_at a.depths.now a.width k) ≤ 29
 few c k l = let a = c.args in fact_few a.depths.now a.width k (omega arith) (omega (arith, c.shared_slice_known-1.given k))
 
-loop-holds : tie.Need-loop-q-init invariant-loop-q decreases-loop-q
-loop-holds c = (omega arith, gather_none 29 _ (fact_line_at c.args.depths.now c.args.width) (few c) c.requires.3)
+loop-q-init : tie.Need-loop-q-init invariant-loop-q decreases-loop-q
+loop-q-init c = (omega arith, gather_none 29 _ (fact_line_at c.args.depths.now c.args.width) (few c) c.requires.3)
 
-write-fact-requires : tie.Need-write_fact-place-requires invariant-loop-q decreases-loop-q
-write-fact-requires c κs =
+write_fact-place-requires : tie.Need-write_fact-place-requires invariant-loop-q decreases-loop-q
+write_fact-place-requires c κs =
     let here = c.before.before.before.before in
     let q = c.loop-q.q in
     let w = c.args.width in
@@ -38,14 +38,14 @@ write-fact-requires c κs =
       gather_room 29 _ (fact_line_at c.args.depths.now w) (few here) c.requires.3 c.loop-q.invariant.1 c.loop-q-test.true,
     )
 
-loop-again : tie.Need-loop-q-preserved invariant-loop-q decreases-loop-q
-loop-again c =
+loop-q-preserved : tie.Need-loop-q-preserved invariant-loop-q decreases-loop-q
+loop-q-preserved c =
     let call = c.before.before.before in
     let here = call.before.before.before in
     (omega arith, gather_more 29 _ (fact_line_at here.args.depths.now here.args.width) (few here.before) here.requires.3 here.loop-q.invariant.1 (omega arith) c.write_fact-place.ensures)
 
-same_length : tie.Need-shape_of-out invariant-loop-q decreases-loop-q
-same_length c =
+shape_of-out : tie.Need-shape_of-out invariant-loop-q decreases-loop-q
+shape_of-out c =
     let here = c.before.before in
     gather_long 29 _ (fact_line_at c.args.depths.now c.args.width) (few here) c.requires.3 c.loop-q.invariant.1 c.loop-q.invariant.0
 
@@ -61,12 +61,12 @@ write_facts_spec =
     (tie.spec
     invariant-loop-q
     decreases-loop-q
-    loop-holds
+    loop-q-init
     (λ c. search rules) (λ c. search rules) (λ c. search rules)
     (λ c. omega (arith, c.shared_slice_known-in-loop-q-1.given c.loop-q.q))
     (λ c. search rules) (λ c. search rules) (λ c. search rules)
-    write-fact-requires
+    write_fact-place-requires
     (λ c. search rules) (λ c. search rules)
-    loop-again
-    same_length
+    loop-q-preserved
+    shape_of-out
     returns)

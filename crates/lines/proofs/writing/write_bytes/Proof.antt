@@ -16,24 +16,24 @@ invariant-loop-i out₀ at bytes i₀ out i = (i ≤ length bytes) × Stored out
 abbrev decreases-loop-i : tie.decreases-loop-i
 decreases-loop-i out₀ at bytes i₀ out i = length bytes - i
 
-loop-holds : tie.Need-loop-i-init invariant-loop-i decreases-loop-i
-loop-holds c = (omega arith, rw add-zero (stored_none _ _))
+loop-i-init : tie.Need-loop-i-init invariant-loop-i decreases-loop-i
+loop-i-init c = (omega arith, rw add-zero (stored_none _ _))
 
-slice-write-out : tie.Need-bounds-out-at invariant-loop-i decreases-loop-i
-slice-write-out c =
+bounds-out-at : tie.Need-bounds-out-at invariant-loop-i decreases-loop-i
+bounds-out-at c =
     let l = c.loop-i in
     let part = length-take-le l.i c.args.bytes.now l.invariant.0 in
     let long = stored_long (omega (arith, part, l.invariant.0, c.requires)) l.invariant.1 in
     omega (arith, long, c.requires, c.loop-i-test.true)
 
-loop-again : tie.Need-loop-i-preserved invariant-loop-i decreases-loop-i
-loop-again c =
+loop-i-preserved : tie.Need-loop-i-preserved invariant-loop-i decreases-loop-i
+loop-i-preserved c =
     let l = c.loop-i in
     let part = length-take-le l.i c.args.bytes.now l.invariant.0 in
     (omega arith, rw (take_more c.args.bytes.now l.i c.loop-i-test.true, ← add_assoc) (stored_more _ (omega (arith, part, c.requires, c.loop-i-test.true)) l.invariant.1))
 
-same_length : tie.Need-shape_of-out invariant-loop-i decreases-loop-i
-same_length c =
+shape_of-out : tie.Need-shape_of-out invariant-loop-i decreases-loop-i
+shape_of-out c =
     let l = c.loop-i in
     let part = length-take-le l.i c.args.bytes.now l.invariant.0 in
     stored_long (omega (arith, part, l.invariant.0, c.requires)) l.invariant.1
@@ -47,11 +47,11 @@ write_bytes_spec =
     (tie.spec
     invariant-loop-i
     decreases-loop-i
-    loop-holds
+    loop-i-init
     (λ c. search rules) (λ c. search rules)
-    slice-write-out
+    bounds-out-at
     (λ c. search rules) (λ c. search rules)
-    loop-again
+    loop-i-preserved
     (λ c. search rules)
-    same_length
+    shape_of-out
     returns)

@@ -22,8 +22,8 @@ word c = c.before.before.before.before
 room : (c : tie.After-write_bytes-arg-1) → let a = (entry c).args in a.at + (length a.word.now + (length (spaced (map decimal a.numbers.now)) + 1)) ≤ length a.out.now
 room c = let a = (entry c).args in omega (arith, line_long a.word.now (spaced (map decimal a.numbers.now)), (entry c).requires.1)
 
-write-numbers-requires : tie.Need-write_numbers-ended-requires
-write-numbers-requires c κs = let begun = c.before.before.before.before in ((entry begun).requires.0, omega (arith, room begun))
+write_numbers-ended-requires : tie.Need-write_numbers-ended-requires
+write_numbers-ended-requires c κs = let begun = c.before.before.before.before in ((entry begun).requires.0, omega (arith, room begun))
 
 returns : tie.Need-returns
 returns c =
@@ -38,7 +38,7 @@ write_line_spec =
     tie.close
     (tie.spec
     (λ c κs. omega (arith, room c))
-    write-numbers-requires
+    write_numbers-ended-requires
     (λ c κs. omega (arith, room (word c.before.before.before).before))
     (λ c. search rules)
     returns)

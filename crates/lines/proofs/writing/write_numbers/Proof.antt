@@ -35,17 +35,17 @@ begin numbers = stored_none _ _
 long : (c : tie.At-loop-i invariant-loop-i decreases-loop-i) → length c.loop-i.out ≡ length (entry c).args.out.now
 long c = stored_long (omega (arith, numbers_few (entry c).args.numbers.now c.loop-i.i)) c.loop-i.invariant.1
 
-loop-holds : tie.Need-loop-i-init invariant-loop-i decreases-loop-i
-loop-holds c = (omega arith, begin c.args.numbers.now)
+loop-i-init : tie.Need-loop-i-init invariant-loop-i decreases-loop-i
+loop-i-init c = (omega arith, begin c.args.numbers.now)
 
-write-byte-requires : tie.Need-write_byte-place-requires invariant-loop-i decreases-loop-i
-write-byte-requires c κs = let here = c.before.before in omega (arith, long here, numbers_room (entry here).args.numbers.now c.loop-i.i c.loop-i-test.true)
+write_byte-place-requires : tie.Need-write_byte-place-requires invariant-loop-i decreases-loop-i
+write_byte-place-requires c κs = let here = c.before.before in omega (arith, long here, numbers_room (entry here).args.numbers.now c.loop-i.i c.loop-i-test.true)
 
-write-decimal-requires : tie.Need-write_decimal-place-requires invariant-loop-i decreases-loop-i
-write-decimal-requires c κs = let here = turn (space c) in omega (arith, long here, numbers_room (entry here).args.numbers.now here.loop-i.i (omega arith))
+write_decimal-place-requires : tie.Need-write_decimal-place-requires invariant-loop-i decreases-loop-i
+write_decimal-place-requires c κs = let here = turn (space c) in omega (arith, long here, numbers_room (entry here).args.numbers.now here.loop-i.i (omega arith))
 
-loop-again : tie.Need-loop-i-preserved invariant-loop-i decreases-loop-i
-loop-again c =
+loop-i-preserved : tie.Need-loop-i-preserved invariant-loop-i decreases-loop-i
+loop-i-preserved c =
     let begun = space c.before.before.before in
     let here = turn begun in
     let more = numbers_room (entry here).args.numbers.now here.loop-i.i (omega arith) in
@@ -60,11 +60,11 @@ write_numbers_spec =
     (tie.spec
     invariant-loop-i
     decreases-loop-i
-    loop-holds
-    write-byte-requires
+    loop-i-init
+    write_byte-place-requires
     (λ c. search rules) (λ c. search rules)
-    write-decimal-requires
+    write_decimal-place-requires
     (λ c. search rules) (λ c. search rules)
-    loop-again
+    loop-i-preserved
     (λ c. long c.before)
     returns)

@@ -23,38 +23,38 @@ sound c =
 few : (c : tie.After-shared_slice_known-4-1) → (job_at (input c.before.before)).questions < 256
 few c = let b = job_at (input c.before.before) in omega (arith, c.shared_slice_known-4-1.given (3 + b.grammar + b.line))
 
-returns : tie.Need-returns-then-length-gt4096
+returns-then-length-gt4096 : tie.Need-returns-then-length-gt4096
 unfolding job_of
-returns c = simp (lt-ltb _ _ c.if-length-gt4096.true)
+returns-then-length-gt4096 c = simp (lt-ltb _ _ c.if-length-gt4096.true)
 
-returns-2 : tie.Need-returns-then-length-lt2
+returns-then-length-lt2 : tie.Need-returns-then-length-lt2
 unfolding job_of
-returns-2 c = simp (le-ltb _ _ c.if-length-gt4096.false, lt-ltb _ _ c.if-length-lt2.true)
+returns-then-length-lt2 c = simp (le-ltb _ _ c.if-length-gt4096.false, lt-ltb _ _ c.if-length-lt2.true)
 
-returns-3 : tie.Need-returns-then-length-grammar
+returns-then-length-grammar : tie.Need-returns-then-length-grammar
 unfolding job_of
-returns-3 c = simp (le-ltb _ _ c.if-length-gt4096.false, le-ltb _ _ c.if-length-lt2.false, lt-ltb _ _ c.if-length-grammar.true)
+returns-then-length-grammar c = simp (le-ltb _ _ c.if-length-gt4096.false, le-ltb _ _ c.if-length-lt2.false, lt-ltb _ _ c.if-length-grammar.true)
 
-returns-4 : tie.Need-returns-then-length-grammar-2
+returns-then-length-grammar-2 : tie.Need-returns-then-length-grammar-2
 unfolding job_of
-returns-4 c =
+returns-then-length-grammar-2 c =
     simp (le-ltb _ _ c.if-length-gt4096.false, le-ltb _ _ c.if-length-lt2.false, le-ltb _ _ c.if-length-grammar.false, lt-ltb _ _ c.if-length-grammar-2.true)
 
-returns-5 : tie.Need-returns-then-length-end
-returns-5 c = simp (sound c.before.before, lt-ltb _ _ c.if-length-end.true)
+returns-then-length-end : tie.Need-returns-then-length-end
+returns-then-length-end c = simp (sound c.before.before, lt-ltb _ _ c.if-length-end.true)
 
-returns-6 : tie.Need-returns-then-end-length
-returns-6 c = simp (sound c.before.before.before, le-ltb _ _ c.if-length-end.false, lt-ltb _ _ c.if-end-length.true)
+returns-then-end-length : tie.Need-returns-then-end-length
+returns-then-end-length c = simp (sound c.before.before.before, le-ltb _ _ c.if-length-end.false, lt-ltb _ _ c.if-end-length.true)
 
-returns-7 : tie.Need-returns
-returns-7 c = simp (sound c.before.before.before, le-ltb _ _ c.if-length-end.false, le-ltb _ _ c.if-end-length.false)
+returns : tie.Need-returns
+returns c = simp (sound c.before.before.before, le-ltb _ _ c.if-length-end.false, le-ltb _ _ c.if-end-length.false)
 
 pub read_job_spec : {M : Type 1} → statement M
 read_job_spec =
     tie.close
     (tie.spec
-    returns
-    returns-2
+    returns-then-length-gt4096
+    returns-then-length-lt2
     (λ c. search rules)
     (λ c. omega (arith, c.shared_slice_known-1.given 0))
     (λ c. search rules)
@@ -62,14 +62,14 @@ read_job_spec =
     (λ c. omega (arith, c.shared_slice_known-2-1.given 0, c.shared_slice_known-2-1.given 1))
     (λ c. omega (arith, c.shared_slice_known-2-1.given 0, c.shared_slice_known-2-1.given 1))
     (λ c. omega (arith, c.shared_slice_known-2-1.given 0, c.shared_slice_known-2-1.given 1))
-    returns-3
+    returns-then-length-grammar
     (λ c. search rules) (λ c. search rules)
     (λ c. omega (arith, c.shared_slice_known-3-1.given (2 + grammar_count (input c))))
     (λ c. search rules)
     (λ c. omega (arith, c.shared_slice_known-3-1.given (2 + grammar_count (input c))))
-    returns-4
+    returns-then-length-grammar-2
     (λ c. search rules) (λ c. search rules) (λ c. search rules) (λ c. omega (arith, few c))
     (λ c. search rules) (λ c. search rules) (λ c. omega (arith, few c)) (λ c. omega (arith, few c))
-    returns-5
-    returns-6
-    returns-7)
+    returns-then-length-end
+    returns-then-end-length
+    returns)

@@ -18,8 +18,8 @@ entry c = c.before.before.before.before.before.before.before
 abbrev asked : tie.After-marked-3-1 → tie.After-marks
 asked c = c.before.before.before.before.before
 
-write-marks-requires : tie.Need-write_marks-requires
-write-marks-requires c κs =
+write_marks-requires : tie.Need-write_marks-requires
+write_marks-requires c κs =
     let marking = asked c in
     let passes = checked_accepted _ _ _ _ _ _ (entry marking).requires.0.1 in
     let marked = marks_answered passes (length-replicate {A = ℕ} 512 0) (length-replicate {A = ℕ} 16384 0) (length-replicate {A = ℕ} 63 0) marking.marks.ensures in
@@ -38,6 +38,6 @@ write_marked_spec =
     tie.close
     (tie.spec
     (λ c. search rules) (λ c. search rules) (λ c. search rules) (λ c κs. search rules) (λ c. search rules)
-    write-marks-requires
+    write_marks-requires
     (λ c. search rules)
     returns)

@@ -18,18 +18,18 @@ decreases-loop-left class line set start starts₀ left₀ starts left = left
 turn : (c : tie.After-first-e invariant-loop-left decreases-loop-left) → Taken c.loop-left.left c.first-e.result
 turn c = taken _ _ c.first-e.ensures (omega (arith, c.loop-left.invariant.low)) c.loop-left-test.true
 
-loop-holds : tie.Need-loop-left-init invariant-loop-left decreases-loop-left
-loop-holds c = class_none _ _ _ _
+loop-left-init : tie.Need-loop-left-init invariant-loop-left decreases-loop-left
+loop-left-init c = class_none _ _ _ _
 
-shared-slice-read-if2 : tie.Need-bounds-line-e invariant-loop-left decreases-loop-left
-shared-slice-read-if2 c =
+bounds-line-e : tie.Need-bounds-line-e invariant-loop-left decreases-loop-left
+bounds-line-e c =
     omega (arith, c.requires.1 _ (c.loop-left.invariant.part _ (turn c.before.before).here), c.if-start-e.true)
 
-cast-if2 : tie.Need-overflow_cast-line invariant-loop-left decreases-loop-left
-cast-if2 c = omega (arith, c.shared_slice_known-then-start-e-1.given (c.first-e.result - 1))
+overflow_cast-line : tie.Need-overflow_cast-line invariant-loop-left decreases-loop-left
+overflow_cast-line c = omega (arith, c.shared_slice_known-then-start-e-1.given (c.first-e.result - 1))
 
-loop-again : tie.Need-loop-left-preserved invariant-loop-left decreases-loop-left
-loop-again c =
+loop-left-preserved : tie.Need-loop-left-preserved invariant-loop-left decreases-loop-left
+loop-left-preserved c =
     let l = c.loop-left in
     let t = turn c.before in
     elim c.if-start-e.branch [
@@ -47,13 +47,13 @@ class_starts_spec =
     (tie.spec
     invariant-loop-left
     decreases-loop-left
-    loop-holds
+    loop-left-init
     (λ c κs. search rules) (λ c. search rules) (λ c. search rules)
-    shared-slice-read-if2
-    cast-if2
+    bounds-line-e
+    overflow_cast-line
     (λ c. search rules)
     (λ c κs. omega (arith, (turn c.before.before.before).small))
     (λ c. (turn c.before).some)
     (λ c. (turn c.before).less)
-    loop-again
+    loop-left-preserved
     returns)

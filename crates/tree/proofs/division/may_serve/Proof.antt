@@ -9,15 +9,15 @@ use Rattle.tree.proofs.DivisionLaws.{row_place, serve_other, serve_empty, serve_
 use Rattle.tree.proofs.division.may_serve.Statement.{statement}
 use Rattle.tree.proofs.division.may_serve.Tie as tie
 
-returns : tie.Need-returns-then-rule_left-category
-returns c = serve_other _ _ _ _ _ _ (λ q. c.if-rule_left-category.true (c.rule_left.ensures ∙ q))
+returns-then-rule_left-category : tie.Need-returns-then-rule_left-category
+returns-then-rule_left-category c = serve_other _ _ _ _ _ _ (λ q. c.if-rule_left-category.true (c.rule_left.ensures ∙ q))
 
 -- the rule is of the category
 left : (c : tie.Else-rule_left-category) → let a = c.args in (standing a.g.now a.at).left ≡ a.category
 left c = sym c.rule_left.ensures ∙ c.if-rule_left-category.false
 
-returns-2 : tie.Need-returns-then-symbols-eq0
-returns-2 c = serve_empty _ _ _ _ _ _ (left c.before.before) (ap length (sym c.rule_symbols-symbols.ensures) ∙ c.if-symbols-eq0.true)
+returns-then-symbols-eq0 : tie.Need-returns-then-symbols-eq0
+returns-then-symbols-eq0 c = serve_empty _ _ _ _ _ _ (left c.before.before) (ap length (sym c.rule_symbols-symbols.ensures) ∙ c.if-symbols-eq0.true)
 
 -- it has a symbol
 some : (c : tie.After-shared_slice_known-4-1) → 0 < length c.rule_symbols-symbols.result.now
@@ -31,25 +31,25 @@ place c =
     let q = c.rule_symbols-symbols.ensures in
     row_place _ _ _ _ c.requires.2 (rw q (c.requires.3 (rw q at (some c.before)) (rw q at c.if-symbol-ge128.true)))
 
-returns-3 : tie.Need-returns-then-symbol-ge128
-returns-3 c =
+returns-then-symbol-ge128 : tie.Need-returns-then-symbol-ge128
+returns-then-symbol-ge128 c =
     let s = c.before.before in
     let q = c.rule_symbols-symbols.ensures in
     let e = s.before.before.before in
     rw q (serve_row _ _ _ _ _ _ (left e) (rw q at (some s)) (rw q at c.if-symbol-ge128.true) c.requires.2)
 
-returns-4 : tie.Need-returns-then-line-start
-returns-4 c =
+returns-then-line-start : tie.Need-returns-then-line-start
+returns-then-line-start c =
     let s = c.before.before in
     let q = c.rule_symbols-symbols.ensures in
     serve_past _ _ _ _ _ _ (left s.before.before.before) (rw q at (some s)) (rw q at c.if-symbol-ge128.false) c.if-line-start.true
 
-cast-result : tie.Need-overflow_cast-result
-cast-result c =
+overflow_cast-result : tie.Need-overflow_cast-result
+overflow_cast-result c =
     omega (arith, c.shared_slice_known-5-1.given c.args.start)
 
-returns-5 : tie.Need-returns
-returns-5 c =
+returns : tie.Need-returns
+returns c =
     let s = c.before.before.before in
     let q = c.rule_symbols-symbols.ensures in
     rw q (serve_token _ _ _ _ _ _ (left s.before.before.before) (rw q at (some s)) (rw q at c.if-symbol-ge128.false))
@@ -59,15 +59,15 @@ may_serve_spec =
     tie.close
     (tie.spec
     (λ c κs. search rules) (λ c. search rules)
-    returns
+    returns-then-rule_left-category
     (λ c κs. search rules)
-    returns-2
+    returns-then-symbols-eq0
     (λ c. search rules)
     (λ c. omega (arith, c.shared_slice_known-4-1.given 0))
     (λ c. search rules) (λ c. omega (arith, place c)) (λ c. omega (arith, place c))
     (λ c. omega (arith, place c)) (λ c. place c.before)
-    returns-3
-    returns-4
+    returns-then-symbol-ge128
+    returns-then-line-start
     (λ c. search rules)
-    cast-result
-    returns-5)
+    overflow_cast-result
+    returns)

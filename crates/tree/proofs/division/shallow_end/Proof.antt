@@ -30,11 +30,11 @@ module _ (c : tie.After-first-e invariant-loop-left decreases-loop-left) where
   room : asked.args.base + c.first-e.result < length asked.args.depths.now
   room = asked.requires _ (c.loop-left.invariant.1 _ turn.here)
 
-loop-holds : tie.Need-loop-left-init invariant-loop-left decreases-loop-left
-loop-holds c = (omega arith, λ e m. m, λ e m n. absurd (n m))
+loop-left-init : tie.Need-loop-left-init invariant-loop-left decreases-loop-left
+loop-left-init c = (omega arith, λ e m. m, λ e m n. absurd (n m))
 
-returns : tie.Need-returns-then-depths-base invariant-loop-left decreases-loop-left
-returns c =
+returns-then-depths-base : tie.Need-returns-then-depths-base invariant-loop-left decreases-loop-left
+returns-then-depths-base c =
     let f = c.before.before in
     let l = f.loop-left in
     record {
@@ -42,8 +42,8 @@ returns c =
       found = λ k. (l.invariant.1 _ (turn f).here, c.if-depths-base.true);
     }
 
-loop-again : tie.Need-loop-left-preserved invariant-loop-left decreases-loop-left
-loop-again c =
+loop-left-preserved : tie.Need-loop-left-preserved invariant-loop-left decreases-loop-left
+loop-left-preserved c =
     let f = c.before.before in
     let l = f.loop-left in
     let base = (asked f).args.base in
@@ -56,8 +56,8 @@ loop-again c =
           (member? l.left e),
     )
 
-returns-2 : tie.Need-returns invariant-loop-left decreases-loop-left
-returns-2 c =
+returns : tie.Need-returns invariant-loop-left decreases-loop-left
+returns c =
     let l = c.loop-left in
     record { none = λ e k p. l.invariant.2 e p.0 (λ m. none_member e (rw c.loop-left-test.false at m)) p.1; found = λ n. absurd (n refl) }
 
@@ -67,11 +67,11 @@ shallow_end_spec =
     (tie.spec
     invariant-loop-left
     decreases-loop-left
-    loop-holds
+    loop-left-init
     (λ c κs. search rules) (λ c. search rules) (λ c. omega (arith, room c)) (λ c. omega (arith, room c))
     (λ c. room c.before)
-    returns
+    returns-then-depths-base
     (λ c. (turn c.before.before).some)
     (λ c. (turn c.before.before).less)
-    loop-again
-    returns-2)
+    loop-left-preserved
+    returns)

@@ -13,19 +13,19 @@ invariant-loop-m symbol line words depths h set start end starts₀ m₀ starts 
 abbrev decreases-loop-m : tie.decreases-loop-m
 decreases-loop-m symbol line words depths h set start end starts₀ m₀ starts m = end + 1 - m
 
-returns : tie.Need-returns-then-symbol-lt128 invariant-loop-m decreases-loop-m
-returns c = let p = c.requires in class_before _ _ _ _ _ _ _ _ _ c.if-symbol-lt128.true p.1 p.2 c.class_starts.ensures
+returns-then-symbol-lt128 : tie.Need-returns-then-symbol-lt128 invariant-loop-m decreases-loop-m
+returns-then-symbol-lt128 c = let p = c.requires in class_before _ _ _ _ _ _ _ _ _ c.if-symbol-lt128.true p.1 p.2 c.class_starts.ensures
 
-loop-holds : tie.Need-loop-m-init invariant-loop-m decreases-loop-m
-loop-holds c = before_none _ _ _ _ _ _ _ _
+loop-m-init : tie.Need-loop-m-init invariant-loop-m decreases-loop-m
+loop-m-init c = before_none _ _ _ _ _ _ _ _
 
-first-end-requires : tie.Need-first_end-requires invariant-loop-m decreases-loop-m
-first-end-requires c κs =
+first_end-requires : tie.Need-first_end-requires invariant-loop-m decreases-loop-m
+first_end-requires c κs =
     let p = c.requires in
     (p.0, le_trans c.loop-m-test.true p.1, λ e m. le_trans (p.2 e m) p.1, p.3)
 
-loop-again : tie.Need-loop-m-preserved invariant-loop-m decreases-loop-m
-loop-again c =
+loop-m-preserved : tie.Need-loop-m-preserved invariant-loop-m decreases-loop-m
+loop-m-preserved c =
     let l = c.loop-m in
     let p = c.requires in
     let f = c.first_end.ensures in
@@ -34,8 +34,8 @@ loop-again c =
       | else-first_end-ne-NO_END w ↦ rw w.starts-is (before_skip _ _ _ _ _ _ _ _ l.m l.starts _ c.loop-m-test.true f l.invariant w.if-first_end-ne-NO_END.false p.2 (le_trans p.1 p.0))
     ]
 
-returns-2 : tie.Need-returns invariant-loop-m decreases-loop-m
-returns-2 c = before_all _ _ _ _ _ _ _ _ _ _ c.loop-m-test.false c.requires.2 c.loop-m.invariant
+returns : tie.Need-returns invariant-loop-m decreases-loop-m
+returns c = before_all _ _ _ _ _ _ _ _ _ _ c.loop-m-test.false c.requires.2 c.loop-m.invariant
 
 pub starts_before_spec : {M : Type 1} → statement M
 starts_before_spec =
@@ -44,9 +44,9 @@ starts_before_spec =
     invariant-loop-m
     decreases-loop-m
     (λ c κs. let p = c.requires in (p.0, λ e m. le_trans (p.2 e m) p.1))
-    returns
-    loop-holds
-    first-end-requires
+    returns-then-symbol-lt128
+    loop-m-init
+    first_end-requires
     (λ c κs. search rules) (λ c. search rules) (λ c. search rules)
-    loop-again
-    returns-2)
+    loop-m-preserved
+    returns)

@@ -32,25 +32,25 @@ module _ (c : tie.At-search invariant-loop-m decreases-loop-m invariant-search d
   few : c.search.p < 128
   few = omega (arith, inside, c.requires.0.few)
 
-may-serve-requires : tie.Need-may_serve-requires invariant-loop-m decreases-loop-m invariant-search decreases-search
-may-serve-requires c κs =
+may_serve-requires : tie.Need-may_serve-requires invariant-loop-m decreases-loop-m invariant-search decreases-search
+may_serve-requires c κs =
     let s = c.before.before in
     let k = inside s in
     (s.requires.0.stands _ k, s.requires.0.short, s.requires.1.start, λ l a. (symbols_fit _ _ _ _ _ _ s.requires.0 _ k 0 l a).0)
 
-search-again : tie.Need-search-preserved-then-not-may_serve invariant-loop-m decreases-loop-m invariant-search decreases-search
-search-again c =
+search-preserved-then-not-may_serve : tie.Need-search-preserved-then-not-may_serve invariant-loop-m decreases-loop-m invariant-search decreases-search
+search-preserved-then-not-may_serve c =
     let s = c.before.before.before.before in
     rule_after _ _ _ _ _ _ s.requires.0 _ _ _ _ s.requires.1 _ c.search.invariant _ refl (λ e v. c.may_serve.ensures.fails c.if-not-may_serve.true e _ s.requires.0.work.rows (λ l. symbols_known _ _ _ _ _ _ s.requires.0 _ (inside s) 0 l) _ v)
 
-sets-before-requires : tie.Need-sets_before-sets-requires invariant-loop-m decreases-loop-m invariant-search decreases-search
-sets-before-requires c κs =
+sets_before-sets-requires : tie.Need-sets_before-sets-requires invariant-loop-m decreases-loop-m invariant-search decreases-search
+sets_before-sets-requires c κs =
     let s = c.before.before.before.before.before in
     let k = inside s in
     rw c.rule_symbols-symbols.ensures (s.requires.0.short, node_rises _ _ _ _ _ _ s.requires.0 _ _ _ _ s.requires.1, s.requires.1.end, symbols_few _ _ _ _ _ _ s.requires.0 _ k, symbols_fit _ _ _ _ _ _ s.requires.0 _ k)
 
-loop-holds : tie.Need-loop-m-init invariant-loop-m decreases-loop-m invariant-search decreases-search
-loop-holds c =
+loop-m-init : tie.Need-loop-m-init invariant-loop-m decreases-loop-m invariant-search decreases-search
+loop-m-init c =
     let s = c.before.before.before.before.before.before in
     turn_begin _ _ s.requires.0.proper _ _ _ _ s.requires.0.short s.requires.1.end
 
@@ -66,19 +66,19 @@ fewer c =
     let k : c.loop-m.d < length c.rule_symbols-symbols.result.now = omega (arith, c.loop-m.invariant.low) in
     (k, lt_of_lt_of_le k (rw c.rule_symbols-symbols.ensures (symbols_few _ _ _ _ _ _ s.requires.0 _ (inside (here l)))))
 
-cast-symbol : tie.Need-overflow_cast-symbol invariant-loop-m decreases-loop-m invariant-search decreases-search
-cast-symbol c = omega (arith, c.shared_slice_known-in-loop-m-1.given c.loop-m.d)
+overflow_cast-symbol : tie.Need-overflow_cast-symbol invariant-loop-m decreases-loop-m invariant-search decreases-search
+overflow_cast-symbol c = omega (arith, c.shared_slice_known-in-loop-m-1.given c.loop-m.d)
 
-first-end-requires : tie.Need-first_end-m-requires invariant-loop-m decreases-loop-m invariant-search decreases-search
-first-end-requires c κs =
+first_end-m-requires : tie.Need-first_end-m-requires invariant-loop-m decreases-loop-m invariant-search decreases-search
+first_end-m-requires c κs =
     let l = c.before.before.before in
     let s = here l in
     let e = c.rule_symbols-symbols.ensures in
     let m = turn_inside _ _ s.requires.0.proper _ _ _ _ s.requires.0.short s.requires.1.end _ _ _ c.loop-m.invariant s.requires.1.start c.loop-m-test.true in
     (s.requires.0.short, m, λ x y. le_trans (c.sets_before-sets.ensures.inside _ x y) s.requires.1.end, (rw (← e) at (symbols_fit _ _ _ _ _ _ s.requires.0 _ (inside (here l)))) _ (fewer c.before).0)
 
-loop-again : tie.Need-loop-m-preserved invariant-loop-m decreases-loop-m invariant-search decreases-search
-loop-again c =
+loop-m-preserved : tie.Need-loop-m-preserved invariant-loop-m decreases-loop-m invariant-search decreases-search
+loop-m-preserved c =
     let o = c.before.before in
     let l = o.before.before in
     let s = here l in
@@ -88,8 +88,8 @@ loop-again c =
     turn_next _ _ s.requires.0.proper _ _ _ _ s.requires.0.short s.requires.1.end _ _ _ o.loop-m.invariant _ _ k.0 c.loop-m-test.true
     (c.first_end-m.ensures _ s.requires.0.work (known _ k.0)) (rw add-one (o.sets_before-sets.ensures.exact _ s.requires.0.work known _ (omega arith) k.0)) k.1 s.requires.1.start
 
-search-again-2 : tie.Need-search-preserved invariant-loop-m decreases-loop-m invariant-search decreases-search
-search-again-2 c =
+search-preserved : tie.Need-search-preserved invariant-loop-m decreases-loop-m invariant-search decreases-search
+search-preserved c =
     let l = c.before in
     let s = here l in
     rule_after _ _ _ _ _ _ s.requires.0 _ _ _ _ s.requires.1 _ (here l).search.invariant _ c.rule_symbols-symbols.ensures
@@ -115,23 +115,23 @@ search_spec =
     (λ c. omega (arith, c.requires.1.fact))
     (λ c. omega arith) (λ c. omega (arith, few c))
     (λ c. few c.before)
-    may-serve-requires
+    may_serve-requires
     (λ c. omega (arith, few c.before.before.before.before))
     (λ c. omega (arith, inside c.before.before.before.before))
-    search-again
+    search-preserved-then-not-may_serve
     (λ c κs. let r = c.before.before.before.before in r.requires.0.stands _ (inside r))
-    sets-before-requires
-    loop-holds
+    sets_before-sets-requires
+    loop-m-init
     (λ c. (fewer c.before).0)
-    cast-symbol
+    overflow_cast-symbol
     (λ c. omega (arith, (fewer c.before).1)) (λ c. omega (arith, (fewer c.before).1))
     (λ c. omega (arith, (fewer c.before).1))
-    first-end-requires
+    first_end-m-requires
     (λ c. omega (arith, (fewer c.before.before).1))
     (λ c. omega (arith, (fewer c.before.before).1))
     (λ c. omega (arith, (fewer c.before.before).0))
-    loop-again
+    loop-m-preserved
     (λ c. omega (arith, few (here c.before)))
     (λ c. omega (arith, inside (here c.before)))
-    search-again-2
+    search-preserved
     returns)
