@@ -7,17 +7,16 @@ ghost use Rattle.forest.specs.Told.{forest_told};
 ghost use Rattle.berylskip.specs.Exported.{numbers, handed};
 ghost use Rattle.berylskip.specs.Questions.{ChartExported, EndsExported, MarksExported, TreeExported, ForestExported};
 
-use chart::{ChartAnswer, EndsAnswer, chart};
-use forest::{Branch, ForestAnswer, forest};
-use marks::MarksAnswer;
-use refusals::{Refusal, row_of};
-use tree::{TreeAnswer, tree};
+use chart::chart;
+use forest::{Branch, forest};
+use refusals::{Refusal, Row};
+use tree::tree;
 
 // A refusal's number; its place is written.
 fn refuse(refusal: Refusal, place: &mut usize) -> u8
     ensures { (result ≡ (row_of refusal).number) × (place.new ≡ (row_of refusal).place) }
 {
-    let row = row_of(refusal);
+    let row = Row::from(refusal);
     *place = row.place;
     row.number
 }
@@ -38,13 +37,10 @@ pub extern "C" fn berylskip_chart_nonnull(
         words.new depths.new (numbers result (rounds.new ∷ facts.new ∷ []) place.new) }
 {
     match chart(g, line, words, depths) {
-        ChartAnswer::Refused(refusal) => refuse(refusal, place),
-        ChartAnswer::Filled {
-            rounds: r,
-            facts: f,
-        } => {
-            *rounds = r;
-            *facts = f;
+        Err(refusal) => refuse(refusal, place),
+        Ok(answer) => {
+            *rounds = answer.rounds;
+            *facts = answer.facts;
             0
         }
     }
@@ -70,17 +66,12 @@ pub extern "C" fn berylskip_ends_nonnull(
         words.new depths.new (numbers result (row.new ∷ ends.new ∷ smallest.new ∷ largest.new ∷ []) place.new) }
 {
     match chart::ends(g, line, category, start, words, depths) {
-        EndsAnswer::Refused(refusal) => refuse(refusal, place),
-        EndsAnswer::Row {
-            row: w,
-            ends: e,
-            smallest: s,
-            largest: l,
-        } => {
-            *row = w;
-            *ends = e;
-            *smallest = s;
-            *largest = l;
+        Err(refusal) => refuse(refusal, place),
+        Ok(answer) => {
+            *row = answer.row;
+            *ends = answer.ends;
+            *smallest = answer.smallest;
+            *largest = answer.largest;
             0
         }
     }
@@ -102,9 +93,9 @@ pub extern "C" fn berylskip_marks_nonnull(
         words.new depths.new marks.new (numbers result (secret.new ∷ []) place.new) }
 {
     match marks::marks(g, line, words, depths, marks) {
-        MarksAnswer::Refused(refusal) => refuse(refusal, place),
-        MarksAnswer::Marked { secret: s } => {
-            *secret = s;
+        Err(refusal) => refuse(refusal, place),
+        Ok(count) => {
+            *secret = count;
             0
         }
     }
@@ -129,8 +120,8 @@ pub extern "C" fn berylskip_tree_nonnull(
         words.new depths.new out.new (numbers result (nodes.new ∷ []) place.new) }
 {
     match tree(g, line, category, start, end, words, depths, out) {
-        TreeAnswer::Refused(refusal) => refuse(refusal, place),
-        TreeAnswer::Nodes { count } => {
+        Err(refusal) => refuse(refusal, place),
+        Ok(count) => {
             *nodes = count;
             0
         }
@@ -138,13 +129,13 @@ pub extern "C" fn berylskip_tree_nonnull(
 }
 
 // The number of records, or the refusal, of a forest's answer.
-fn hand_records(answer: ForestAnswer, records: &mut usize, place: &mut usize) -> u8
+fn hand_records(answer: Result<usize, Refusal>, records: &mut usize, place: &mut usize) -> u8
     ensures { handed (forest_told answer) (records.old ∷ []) place.old
         ≡ numbers result (records.new ∷ []) place.new }
 {
     match answer {
-        ForestAnswer::Refused(refusal) => refuse(refusal, place),
-        ForestAnswer::Records { count } => {
+        Err(refusal) => refuse(refusal, place),
+        Ok(count) => {
             *records = count;
             0
         }

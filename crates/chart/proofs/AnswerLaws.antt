@@ -1,4 +1,7 @@
 -- What Chart and Ends answer where no check refuses: the computed rounds, facts, rows and depths.
+use Rattle.std.proofs.Common.{Ok, Result}
+use Rattle.refusals.specs.Check.{nothing_wrong}
+use Rattle.refusals.specs.declared.Refusal.{Refusal}
 use Prim.Native.Nat.{ℕ, suc, ◌^◌, ◌<◌}
 use mathlib.Core.Path.{◌≡◌, sym, ap, ◌∙◌}
 use mathlib.Core.Logic.{◌↔◌}
@@ -7,7 +10,6 @@ use mathlib.Core.List.{List}
 use native.Mathlib.Decide.{dec_lt}
 use native.Mathlib.Omega.{arith}
 use lib.ListN.{length, get_or}
-use Rattle.refusals.specs.declared.Check.TheVariants as check
 use Rattle.refusals.specs.Order.{reported}
 use Rattle.positions.specs.Member.{digit, Member}
 use Rattle.positions.specs.Count.{count_below}
@@ -30,9 +32,7 @@ use Rattle.grammar.specs.Value.{grammar_of}
 use Rattle.grammar.proofs.Encoded.{sections_proper}
 use Rattle.filling.specs.Filled.{WorkFilled}
 use Rattle.chart.specs.declared.ChartAnswer.{ChartAnswer}
-use Rattle.chart.specs.declared.ChartAnswer.TheVariants as chart
 use Rattle.chart.specs.declared.EndsAnswer.{EndsAnswer}
-use Rattle.chart.specs.declared.EndsAnswer.TheVariants as ends
 use Rattle.chart.specs.Checks.{chart_checks, ends_checks}
 use Rattle.chart.specs.ChartOutcome.{ChartOutcome, turned_down, filled}
 use Rattle.chart.specs.EndsOutcome.{EndsOutcome, found}
@@ -56,12 +56,12 @@ row_is G line proper A i row shows x small same = same_members row x (λ j. let 
     equal j (no n) = digit_past G line proper A i row shows j (omega arith) ∙ sym (digit_above x (suc (length line)) j small (omega arith))
 
 module _ (g line words depths : List ℕ) (s : Sections) where
-  pub chart_answered : Passes g line Nothing (length words) (length depths) s → {answer : ChartAnswer} {words' depths' : List ℕ} → ChartOutcome g line words depths answer words' depths' →
-      (answer ≡ chart.Filled (rounds_of (grammar_of g s) line) (fact_count (grammar_of g s) line)) × WorkFilled (grammar_of g s) line words depths words' depths'
+  pub chart_answered : Passes g line Nothing (length words) (length depths) s → {answer : Result ChartAnswer Refusal} {words' depths' : List ℕ} → ChartOutcome g line words depths answer words' depths' →
+      (answer ≡ Ok (record { rounds = rounds_of (grammar_of g s) line; facts = fact_count (grammar_of g s) line })) × WorkFilled (grammar_of g s) line words depths words' depths'
   chart_answered passes (turned_down p a w d) = absurd (not_both p passed)
     where
-      passed : reported (chart_checks g line words depths) ≡ check.Passed
-      passed = rw (early_passed words depths check.Passed check.Passed passes)
+      passed : reported (chart_checks g line words depths) ≡ nothing_wrong
+      passed = rw (early_passed words depths nothing_wrong nothing_wrong passes)
   chart_answered passes {answer} (filled p t r f y) =
       let same = grammar_is passes in
       let rounds = rounds_are (grammar_of g s) line (sections_proper g s (sections passes)) (rw same at r) in
@@ -69,12 +69,12 @@ module _ (g line words depths : List ℕ) (s : Sections) where
       (chart_told_lem answer t ∙ rw (rounds, facts), rw same at y)
 
   pub ends_answered : (A i : ℕ) → Passes g line (Start A i) (length words) (length depths) s →
-      {answer : EndsAnswer} {words' depths' : List ℕ} → EndsOutcome g line A i words depths answer words' depths' →
-      (row : ℕ) × (smallest : ℕ) × (largest : ℕ) × (answer ≡ ends.Row row (count_below 64 row) smallest largest)
+      {answer : Result EndsAnswer Refusal} {words' depths' : List ℕ} → EndsOutcome g line A i words depths answer words' depths' →
+      (row : ℕ) × (smallest : ℕ) × (largest : ℕ) × (answer ≡ Ok (record { row = row; ends = count_below 64 row; smallest = smallest; largest = largest }))
       × ((j : ℕ) → Member row j ↔ Fact (grammar_of g s) line A i j) × BothEnds row smallest largest
   ends_answered A i passes (ends_outcome.turned_down p a w d) = absurd (not_both p passed)
     where
-      passed : reported (ends_checks g line A i words depths) ≡ check.Passed
-      passed = rw (early_passed words depths check.Passed check.Passed passes)
+      passed : reported (ends_checks g line A i words depths) ≡ nothing_wrong
+      passed = rw (early_passed words depths nothing_wrong nothing_wrong passes)
   ends_answered A i passes {answer} (found {row = row} {smallest = smallest} {largest = largest} p t m c b y) =
       (row, smallest, largest, ends_told_lem answer t ∙ rw c, rw (grammar_is passes) at m, b)

@@ -1,12 +1,11 @@
 -- What a question's checks report, from what the first of them find.
+use Rattle.std.proofs.Common.{Err, Ok, Result}
 use Prim.Native.Nat.{ℕ, ◌≤◌}
-use mathlib.Core.Path.{◌≡◌, refl}
+use mathlib.Core.Path.{◌≡◌, refl, sym, ◌∙◌}
 use mathlib.Core.List.{List}
-use native.Mathlib.Omega.{arith}
 use lib.ListN.{length}
 use Rattle.refusals.specs.declared.Refusal.{Refusal}
-use Rattle.refusals.specs.declared.Check.{Check}
-use Rattle.refusals.specs.declared.Check.TheVariants as check
+use Rattle.refusals.specs.Check.{Check, nothing_wrong}
 use Rattle.refusals.specs.Order.{early}
 use Rattle.derivation.specs.Grammar.{Proper}
 use Rattle.checks.specs.declared.Asked.{Asked}
@@ -16,8 +15,6 @@ use Rattle.checks.specs.Memory.{chart_size, depths_size}
 use Rattle.checks.specs.inner.Rest.{rest_check}
 use Rattle.checks.proofs.Laws.{both_passed, line_passed, work_passed}
 use Rattle.grammar.specs.declared.reading.Sections.{Sections}
-use Rattle.grammar.specs.declared.reading.Reading.{Reading}
-use Rattle.grammar.specs.declared.reading.Reading.TheVariants.{Accepted, Refused}
 use Rattle.grammar.specs.Reading.{read_of}
 use Rattle.grammar.specs.Value.{Sectioned, grammar_of}
 use Rattle.grammar.specs.Given.{check_of, sections_in, grammar_given}
@@ -29,37 +26,41 @@ use Rattle.chart.specs.Checks.{checks_of}
 use Rattle.chart.specs.Told.{first_told}
 
 -- sections are handed on exactly where the check passes
-accepted_passed : (s x : Sections) (c : Check) → accepted_if x c ≡ Accepted s → (x ≡ s) × (c ≡ check.Passed)
-accepted_passed s x check.Passed e = (cc, refl)
-accepted_passed s x (check.Refused y) e = absurd (let z : ◌≡◌ {A = ℕ} 0 1 = cc in omega arith)
+accepted_passed : (s x : Sections) (c : Check) → accepted_if x c ≡ Ok s → (x ≡ s) × (c ≡ nothing_wrong)
+accepted_passed s x (Ok u) e = (cc, refl)
+accepted_passed s x (Err y) e = cc
 
-accepted_refused : (x : Sections) (c : Check) (refusal : Refusal) → accepted_if x c ≡ Refused refusal → c ≡ check.Refused refusal
-accepted_refused x (check.Refused y) refusal e = cc
-accepted_refused x check.Passed refusal e = absurd (let z : ◌≡◌ {A = ℕ} 0 1 = cc in omega arith)
+accepted_refused : (x : Sections) (c : Check) (refusal : Refusal) → accepted_if x c ≡ Err refusal → c ≡ Err refusal
+accepted_refused x (Err y) refusal e = cc
+accepted_refused x (Ok u) refusal e = cc
 
 -- a refusal of the first checks is the question's
 pub checked_refused :
     (g line : List ℕ) (asked : Asked) (words depths : List ℕ) (fact room : Check) (refusal : Refusal) →
-    checked_of (read_of g) line asked (length words) (length depths) ≡ Refused refusal → early (checks_of g line asked words depths fact room) ≡ check.Refused refusal
+    checked_of (read_of g) line asked (length words) (length depths) ≡ Err refusal → early (checks_of g line asked words depths fact room) ≡ Err refusal
 checked_refused g line asked words depths fact room refusal e = go (read_of g) refl e
   where
-    go : (r : Reading) → read_of g ≡ r → checked_of r line asked (length words) (length depths) ≡ Refused refusal → early (checks_of g line asked words depths fact room) ≡ check.Refused refusal
-    go (Refused x) q h = rw q cc
-    go (Accepted s) q h = rw q (accepted_refused s _ refusal h)
+    go : (r : Result Sections Refusal) → read_of g ≡ r → checked_of r line asked (length words) (length depths) ≡ Err refusal → early (checks_of g line asked words depths fact room) ≡ Err refusal
+    go (Err x) q h = rw q cc
+    go (Ok s) q h = rw q (accepted_refused s _ refusal h)
 
 -- what is known of a question whose first checks pass
 pub record Passes (g line : List ℕ) (asked : Asked) (words numbers : ℕ) (s : Sections) : Type 0 where
-  pub read : read_of g ≡ Accepted s
-  pub rest : rest_check s.classes s.categories line asked words numbers ≡ check.Passed
+  pub read : read_of g ≡ Ok s
+  pub rest : rest_check s.classes s.categories line asked words numbers ≡ nothing_wrong
 
-pub checked_accepted : (g line : List ℕ) (asked : Asked) (words numbers : ℕ) (s : Sections) → checked_of (read_of g) line asked words numbers ≡ Accepted s → Passes g line asked words numbers s
+pub checked_accepted : (g line : List ℕ) (asked : Asked) (words numbers : ℕ) (s : Sections) → checked_of (read_of g) line asked words numbers ≡ Ok s → Passes g line asked words numbers s
 checked_accepted g line asked words numbers s e = go (read_of g) refl e
   where
-    go : (r : Reading) → read_of g ≡ r → checked_of r line asked words numbers ≡ Accepted s → Passes g line asked words numbers s
-    go (Refused x) q h = absurd (let z : ◌≡◌ {A = ℕ} 0 1 = cc in omega arith)
-    go (Accepted x) q h =
+    go : (r : Result Sections Refusal) → read_of g ≡ r → checked_of r line asked words numbers ≡ Ok s → Passes g line asked words numbers s
+    go (Err x) q h = cc
+    go (Ok x) q h =
         let p = accepted_passed s x (rest_check x.classes x.categories line asked words numbers) h in
         record { read = rw p.0 at q; rest = rw p.0 at p.1 }
+
+-- the same of what a call answered
+pub passed : {g line : List ℕ} {asked : Asked} {words numbers : ℕ} {s : Sections} {answer : Result Sections Refusal} → answer ≡ checked_of (read_of g) line asked words numbers → answer ≡ Ok s → Passes g line asked words numbers s
+passed e f = checked_accepted _ _ _ _ _ _ (sym e ∙ f)
 
 module _ {g line : List ℕ} {asked : Asked} {words numbers : ℕ} {s : Sections} (passes : Passes g line asked words numbers s) where
   pub sections : Sectioned g s
@@ -68,7 +69,7 @@ module _ {g line : List ℕ} {asked : Asked} {words numbers : ℕ} {s : Sections
   pub line_is : IsLine s.classes line
   line_is = (line_passed s.classes line).0 (both_passed _ _ passes.rest).0
 
-  pub asked_is : asked_check s.categories (length line) asked ≡ check.Passed
+  pub asked_is : asked_check s.categories (length line) asked ≡ nothing_wrong
   asked_is = (both_passed _ _ (both_passed (line_check s.classes line) _ passes.rest).1).0
 
   pub memory_is : (chart_size s.categories (length line) ≤ words) × (depths_size s.categories (length line) ≤ numbers)
@@ -85,7 +86,7 @@ module _ {g line : List ℕ} {asked : Asked} {words numbers : ℕ} {s : Sections
   grammar_is = rw passes.read
 
 pub early_passed : {g line : List ℕ} {asked : Asked} (words depths : List ℕ) {s : Sections} (fact room : Check) → Passes g line asked (length words) (length depths) s →
-    early (checks_of g line asked words depths fact room) ≡ check.Passed
+    early (checks_of g line asked words depths fact room) ≡ nothing_wrong
 early_passed words depths fact room passes = rw passes.read passes.rest
 
 -- what the first checks tell
@@ -93,16 +94,16 @@ pub checked_told :
     (g line : List ℕ) (asked : Asked) (words depths : List ℕ) → reading_told (checked_of (read_of g) line asked (length words) (length depths)) ≡ first_told g line asked words depths
 checked_told g line asked words depths = go (checked_of (read_of g) line asked (length words) (length depths)) refl
   where
-    go : (r : Reading) → checked_of (read_of g) line asked (length words) (length depths) ≡ r → reading_told r ≡ first_told g line asked words depths
-    go (Refused refusal) e = rw (checked_refused g line asked words depths check.Passed check.Passed refusal e)
-    go (Accepted s) e =
+    go : (r : Result Sections Refusal) → checked_of (read_of g) line asked (length words) (length depths) ≡ r → reading_told r ≡ first_told g line asked words depths
+    go (Err refusal) e = rw (checked_refused g line asked words depths nothing_wrong nothing_wrong refusal e)
+    go (Ok s) e =
         let passes = checked_accepted g line asked (length words) (length depths) s e in
-        rw (early_passed words depths check.Passed check.Passed passes, passes.read)
+        rw (early_passed words depths nothing_wrong nothing_wrong passes, passes.read)
 
 -- a question whose first checks pass has a grammar with every rule's left category in it
-pub early_proper : (g line : List ℕ) (asked : Asked) (words depths : List ℕ) (fact room : Check) → early (checks_of g line asked words depths fact room) ≡ check.Passed → Proper (grammar_given g)
+pub early_proper : (g line : List ℕ) (asked : Asked) (words depths : List ℕ) (fact room : Check) → early (checks_of g line asked words depths fact room) ≡ nothing_wrong → Proper (grammar_given g)
 early_proper g line asked words depths fact room e = go (read_of g) refl (both_passed (check_of (read_of g)) _ e).0
   where
-    go : (r : Reading) → read_of g ≡ r → check_of r ≡ check.Passed → Proper (grammar_of g (sections_in r))
-    go (Accepted s) q h = accepted_proper g s q
-    go (Refused x) q h = absurd (let z : ◌≡◌ {A = ℕ} 0 1 = cc in omega arith)
+    go : (r : Result Sections Refusal) → read_of g ≡ r → check_of r ≡ nothing_wrong → Proper (grammar_of g (sections_in r))
+    go (Ok s) q h = accepted_proper g s q
+    go (Err x) q h = cc

@@ -1,4 +1,6 @@
 -- What Chart and Ends lead to on the document's job and on another line of its length, with work memory of any old contents.
+use Rattle.std.proofs.Common.{Ok, Result}
+use Rattle.refusals.specs.declared.Refusal.{Refusal}
 use Prim.Native.Nat.{ℕ, ◌+◌, ◌*◌}
 use mathlib.Core.Path.{◌≡◌, refl, ◌∙◌}
 use mathlib.Core.Bool.{cond}
@@ -26,16 +28,13 @@ use Rattle.checks.specs.declared.Asked.TheVariants.{Nothing, Start}
 use Rattle.checks.specs.Line.{tokens_from, line_check}
 use Rattle.checks.specs.Question.{start_check}
 use Rattle.grammar.specs.declared.reading.Sections.{Sections}
-use Rattle.grammar.specs.declared.reading.Reading.TheVariants.{Accepted}
 use Rattle.grammar.specs.Repeats.{same_symbols, same_rule, is_repeated}
 use Rattle.grammar.specs.Reading.{each_from, rule_from, rules_from, flags_section, rules_section, sections_of, read_of}
 use Rattle.grammar.specs.Value.{standing, rules_at, grammar_of}
 use Rattle.grammar.proofs.Encoded.{accepted_proper}
 use Rattle.filling.specs.Filled.{WorkFilled}
 use Rattle.chart.specs.declared.ChartAnswer.{ChartAnswer}
-use Rattle.chart.specs.declared.ChartAnswer.TheVariants as chart
 use Rattle.chart.specs.declared.EndsAnswer.{EndsAnswer}
-use Rattle.chart.specs.declared.EndsAnswer.TheVariants as ends
 use Rattle.chart.specs.ChartOutcome.{ChartOutcome}
 use Rattle.chart.specs.EndsOutcome.{EndsOutcome}
 use Rattle.chart.specs.inner.Job.{job_bytes, job_grammar, job_line, other_line, JobMemory}
@@ -46,7 +45,7 @@ use Rattle.chart.proofs.AnswerLaws.{row_is, chart_answered, ends_answered}
 abbrev job_sections : Sections
 job_sections = record { classes = 3; categories = 1; rules = 2; flags = 5; first = 7; end = 15 }
 
-job_read : read_of job_bytes ≡ Accepted job_sections
+job_read : read_of job_bytes ≡ Ok job_sections
 unfolding job_bytes read_of sections_of flags_section rules_section rules_from rule_from each_from standing is_repeated same_rule same_symbols some
 job_read = refl
 
@@ -111,12 +110,12 @@ module _ {words depths : List ℕ} (memory : JobMemory words depths) where
   other_passes = record { read = job_read; rest = rw (le-ltb (length words) 7 memory.words_long, le-ltb (length depths) 49 memory.depths_long) }
 
   -- the work memory holds the chart and the depths of the job's line
-  pub job_filled : {answer : ChartAnswer} {words' depths' : List ℕ} → ChartOutcome job_bytes job_line words depths answer words' depths' → WorkFilled job_grammar job_line words depths words' depths'
+  pub job_filled : {answer : Result ChartAnswer Refusal} {words' depths' : List ℕ} → ChartOutcome job_bytes job_line words depths answer words' depths' → WorkFilled job_grammar job_line words depths words' depths'
   job_filled o = rw job_grammar_lem at (chart_answered job_bytes job_line words depths job_sections job_passes o).1
 
   -- rounds 3 facts 6; the row of (0, 1) is 84, and the depth of (0, 1, 6) is 3
-  pub job_outcome : {answer : ChartAnswer} {words' depths' : List ℕ} → ChartOutcome job_bytes job_line words depths answer words' depths' →
-      (answer ≡ chart.Filled 3 6) × (get_or words' 1 0 ≡ 84) × (get_or depths' (1 * 7 + 6) 0 ≡ 3)
+  pub job_outcome : {answer : Result ChartAnswer Refusal} {words' depths' : List ℕ} → ChartOutcome job_bytes job_line words depths answer words' depths' →
+      (answer ≡ Ok (record { rounds = 3; facts = 6 })) × (get_or words' 1 0 ≡ 84) × (get_or depths' (1 * 7 + 6) 0 ≡ 3)
   unfolding job_grammar job_line
   job_outcome o =
       let filled = job_filled o in (
@@ -126,8 +125,8 @@ module _ {words depths : List ℕ} (memory : JobMemory words depths) where
       )
 
   -- on the other line: no fact, rounds 0, and the row of (0, 1) is empty
-  pub other_outcome : {answer : ChartAnswer} {words' depths' : List ℕ} → ChartOutcome job_bytes other_line words depths answer words' depths' →
-      (answer ≡ chart.Filled 0 0) × (get_or words' 1 0 ≡ 0)
+  pub other_outcome : {answer : Result ChartAnswer Refusal} {words' depths' : List ℕ} → ChartOutcome job_bytes other_line words depths answer words' depths' →
+      (answer ≡ Ok (record { rounds = 0; facts = 0 })) × (get_or words' 1 0 ≡ 0)
   unfolding job_grammar other_line
   other_outcome o =
       let e = chart_answered job_bytes other_line words depths job_sections other_passes o in
@@ -135,7 +134,7 @@ module _ {words depths : List ℕ} (memory : JobMemory words depths) where
       (e.0 ∙ rw (job_grammar_lem, other_rounds, other_facts), row_is job_grammar other_line job_proper 0 1 _ (filled.word 0 1 (omega arith) (omega arith)) 0 (omega arith) other_row)
 
   -- the row of (0, 1) is 84: three ends, the smallest 2 and the largest 6
-  pub job_ends : {answer : EndsAnswer} {words' depths' : List ℕ} → EndsOutcome job_bytes job_line 0 1 words depths answer words' depths' → answer ≡ ends.Row 84 3 2 6
+  pub job_ends : {answer : Result EndsAnswer Refusal} {words' depths' : List ℕ} → EndsOutcome job_bytes job_line 0 1 words depths answer words' depths' → answer ≡ Ok (record { row = 84; ends = 3; smallest = 2; largest = 6 })
   unfolding job_line
   job_ends o =
       let e = ends_answered job_bytes job_line words depths job_sections 0 1 start_passes o in

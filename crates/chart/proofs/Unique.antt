@@ -1,4 +1,6 @@
 -- Any two outcomes that the contract of Chart or of Ends allows are equal.
+use Rattle.std.proofs.Common.{Err, Ok, Result}
+use Rattle.refusals.specs.declared.Refusal.{Refusal}
 use Prim.Native.Nat.{ℕ}
 use mathlib.Core.Path.{◌≡◌, sym, ap, ◌∙◌}
 use mathlib.Core.List.{List, [], ◌∷◌}
@@ -13,27 +15,30 @@ use Rattle.checks.proofs.Laws.{one_refusal, not_both}
 use Rattle.grammar.specs.Given.{grammar_given}
 use Rattle.filling.proofs.Unique.{filled_unique}
 use Rattle.chart.specs.declared.ChartAnswer.{ChartAnswer}
-use Rattle.chart.specs.declared.ChartAnswer.TheVariants as chart
 use Rattle.chart.specs.declared.EndsAnswer.{EndsAnswer}
-use Rattle.chart.specs.declared.EndsAnswer.TheVariants as ends
 use Rattle.chart.specs.Told.{chart_told, ends_told}
 use Rattle.chart.specs.ChartOutcome.{ChartOutcome, turned_down, filled}
 use Rattle.chart.specs.EndsOutcome.{EndsOutcome, found}
 use Rattle.chart.specs.EndsOutcome as ends_outcome
 
 -- the values that are told are those of one answer
-pub chart_told_lem : (a : ChartAnswer) {rounds facts : ℕ} → chart_told a ≡ told.answered (rounds ∷ facts ∷ []) → a ≡ chart.Filled rounds facts
-chart_told_lem (chart.Filled x y) e = cc
-chart_told_lem (chart.Refused refusal) e = cc
+pub chart_told_lem : (a : Result ChartAnswer Refusal) {rounds facts : ℕ} → chart_told a ≡ told.answered (rounds ∷ facts ∷ []) → a ≡ Ok (record { rounds = rounds; facts = facts })
+chart_told_lem (Ok x) {rounds} {facts} e = let r : rounds ≡ x.rounds = cc in let f : facts ≡ x.facts = cc in rw (r, f)
+chart_told_lem (Err refusal) e = cc
 
-pub ends_told_lem : (a : EndsAnswer) {row count smallest largest : ℕ} → ends_told a ≡ told.answered (row ∷ count ∷ smallest ∷ largest ∷ []) → a ≡ ends.Row row count smallest largest
-ends_told_lem (ends.Row x y z w) e = cc
-ends_told_lem (ends.Refused refusal) e = cc
+pub ends_told_lem : (a : Result EndsAnswer Refusal) {row count smallest largest : ℕ} → ends_told a ≡ told.answered (row ∷ count ∷ smallest ∷ largest ∷ []) → a ≡ Ok (record { row = row; ends = count; smallest = smallest; largest = largest })
+ends_told_lem (Ok x) {row} {count} {smallest} {largest} e =
+    let r : row ≡ x.row = cc in
+    let c : count ≡ x.ends = cc in
+    let s : smallest ≡ x.smallest = cc in
+    let l : largest ≡ x.largest = cc in
+    rw (r, c, s, l)
+ends_told_lem (Err refusal) e = cc
 
 module _ (g line words depths : List ℕ) where
-  pub chart_outcome_unique : {a b : ChartAnswer} {w d x e : List ℕ} →
+  pub chart_outcome_unique : {a b : Result ChartAnswer Refusal} {w d x e : List ℕ} →
       ChartOutcome g line words depths a w d → ChartOutcome g line words depths b x e → (a ≡ b) × (w ≡ x) × (d ≡ e)
-  chart_outcome_unique (turned_down p a w d) (turned_down q b x e) = (a ∙ ap chart.Refused (one_refusal p q) ∙ sym b, w ∙ sym x, d ∙ sym e)
+  chart_outcome_unique (turned_down p a w d) (turned_down q b x e) = (a ∙ ap Err (one_refusal p q) ∙ sym b, w ∙ sym x, d ∙ sym e)
   chart_outcome_unique (turned_down p a w d) (filled q t' r f y) = absurd (not_both p q)
   chart_outcome_unique (filled p t r f y) (turned_down q b x e) = absurd (not_both q p)
   chart_outcome_unique {a} {b} (filled p t r f y) (filled q t' r' f' y') =
@@ -42,10 +47,10 @@ module _ (g line words depths : List ℕ) where
       let facts = ap length (facts_unique f f') in
       (chart_told_lem a t ∙ rw (rounds, facts) (sym (chart_told_lem b t')), memory.0, memory.1)
 
-  pub ends_outcome_unique : (A i : ℕ) {a b : EndsAnswer} {w d x e : List ℕ} →
+  pub ends_outcome_unique : (A i : ℕ) {a b : Result EndsAnswer Refusal} {w d x e : List ℕ} →
       EndsOutcome g line A i words depths a w d → EndsOutcome g line A i words depths b x e → (a ≡ b) × (w ≡ x) × (d ≡ e)
   ends_outcome_unique A i (ends_outcome.turned_down p a w d) (ends_outcome.turned_down q b x e) =
-      (a ∙ ap ends.Refused (one_refusal p q) ∙ sym b, w ∙ sym x, d ∙ sym e)
+      (a ∙ ap Err (one_refusal p q) ∙ sym b, w ∙ sym x, d ∙ sym e)
   ends_outcome_unique A i (ends_outcome.turned_down p a w d) (found q t' m c o y) = absurd (not_both p q)
   ends_outcome_unique A i (found p t m c o y) (ends_outcome.turned_down q b x e) = absurd (not_both q p)
   ends_outcome_unique A i {a} {b} (found p t m c o y) (found q t' m' c' o' y') =

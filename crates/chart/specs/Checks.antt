@@ -1,7 +1,6 @@
 -- The checks of a question: each by itself, from what the caller hands in.
 use Rattle.std.specs.Prelude.{ℕ, List, length}
-use Rattle.refusals.specs.declared.Check.{Check}
-use Rattle.refusals.specs.declared.Check.TheVariants.{Passed}
+use Rattle.refusals.specs.Check.{Check, nothing_wrong}
 use Rattle.refusals.specs.Order.{Checks}
 use Rattle.checks.specs.declared.Asked.{Asked}
 use Rattle.checks.specs.declared.Asked.TheVariants.{Nothing, Start}
@@ -25,8 +24,8 @@ checks_of g line asked words depths fact room =
 
 -- the chart question asks with no number
 abbrev pub chart_checks : (g line words depths : List ℕ) → Checks
-chart_checks g line words depths = checks_of g line Nothing words depths Passed Passed
+chart_checks g line words depths = checks_of g line Nothing words depths nothing_wrong nothing_wrong
 
 -- ends asks with a category and a start
 abbrev pub ends_checks : (g line : List ℕ) → (A i : ℕ) → (words depths : List ℕ) → Checks
-ends_checks g line A i words depths = checks_of g line (Start A i) words depths Passed Passed
+ends_checks g line A i words depths = checks_of g line (Start A i) words depths nothing_wrong nothing_wrong

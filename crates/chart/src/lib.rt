@@ -8,41 +8,39 @@ pub mod work; // work.rt: what every question checks and counts
 
 use checks::Asked;
 use filling::rounds::fill;
-use grammar::reading::Reading;
 use refusals::Refusal;
 
 // What the chart question answers.
 #[derive(Clone, Copy)]
-pub enum ChartAnswer {
-    Filled { rounds: usize, facts: usize },
-    Refused(Refusal),
+pub struct ChartAnswer {
+    pub rounds: usize,
+    pub facts: usize,
 }
 
-// What the question of the ends of (A, i) answers: the row, how many ends it shows, the smallest and the largest, positions::NO_END for both where there is none.
+// What the question of the ends of (A, i) answers: the row, how many ends it shows, the smallest and the largest, positions::NO_END for both where there is none, as the document and the exported functions answer.
 #[derive(Clone, Copy)]
-pub enum EndsAnswer {
-    Row {
-        row: u64,
-        ends: u32,
-        smallest: u32,
-        largest: u32,
-    },
-    Refused(Refusal),
+pub struct EndsAnswer {
+    pub row: u64,
+    pub ends: u32,
+    pub smallest: u32,
+    pub largest: u32,
 }
 
 // Fills the work memory with every fact of every category, and its depth.
-pub fn chart(g: &[u8], line: &[u8], words: &mut [u64], depths: &mut [u16]) -> ChartAnswer
+pub fn chart(
+    g: &[u8],
+    line: &[u8],
+    words: &mut [u64],
+    depths: &mut [u16],
+) -> Result<ChartAnswer, Refusal>
     ensures { ChartOutcome g.now line.now
         words.old depths.old result
         words.new depths.new }
 {
-    let s = match work::checked(g, line, Asked::Nothing, words.len(), depths.len()) {
-        Reading::Refused(refusal) => return ChartAnswer::Refused(refusal),
-        Reading::Accepted(s) => s,
-    };
+    let s = work::checked(g, line, Asked::Nothing, words.len(), depths.len())?;
     let rounds = fill(g, s, line, words, depths);
     let facts = work::count_ends(words, s.categories * (line.len() + 1));
-    ChartAnswer::Filled { rounds, facts }
+    Ok(ChartAnswer { rounds, facts })
 }
 
 // The ends of the category's spans from a start.
@@ -53,23 +51,20 @@ pub fn ends(
     start: usize,
     words: &mut [u64],
     depths: &mut [u16],
-) -> EndsAnswer
+) -> Result<EndsAnswer, Refusal>
     ensures { EndsOutcome g.now line.now category start
         words.old depths.old result
         words.new depths.new }
 {
     let asked = Asked::Start { category, start };
-    let s = match work::checked(g, line, asked, words.len(), depths.len()) {
-        Reading::Refused(refusal) => return EndsAnswer::Refused(refusal),
-        Reading::Accepted(s) => s,
-    };
+    let s = work::checked(g, line, asked, words.len(), depths.len())?;
     fill(g, s, line, words, depths);
     let row = words[category * (line.len() + 1) + start];
     let both = positions::both_ends(row);
-    EndsAnswer::Row {
+    Ok(EndsAnswer {
         row,
         ends: positions::count(row),
         smallest: both.smallest,
         largest: both.largest,
-    }
+    })
 }

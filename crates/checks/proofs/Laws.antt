@@ -1,4 +1,5 @@
 -- Laws of the checks of line, question and memory.
+use Rattle.std.proofs.Common.{Err, Ok}
 use Prim.Native.Nat.{ℕ, zero, suc, ◌+◌, ◌-◌, ◌≤◌, ◌<◌}
 use mathlib.Core.Path.{◌≡◌, refl, ap, ◌∙◌}
 use mathlib.Core.Logic.{◌↔◌}
@@ -13,8 +14,7 @@ use borrow.Author.Count.{below_more}
 use borrow.Author.Tests.{lt-ltb, le-ltb, ltb-true, ltb-false, leb-false}
 use Rattle.refusals.specs.declared.Refusal.{Refusal}
 use Rattle.refusals.specs.declared.Refusal.TheVariants.{LineTooLong, TokenNoClass, CategoryOutside, StartOutside, EndOutside, ChartTooSmall, DepthsTooSmall}
-use Rattle.refusals.specs.declared.Check.{Check}
-use Rattle.refusals.specs.declared.Check.TheVariants.{Passed, Refused}
+use Rattle.refusals.specs.Check.{Check, nothing_wrong}
 use Rattle.refusals.specs.Order.{and_then, Checks, early, late, reported}
 use Rattle.refusals.specs.Told.{Told, answered, refused, check_told}
 use Rattle.checks.specs.Line.{IsLine, FirstNoClass, LineOutcome, too_long, bad_token, is_line, tokens_from, line_check}
@@ -30,52 +30,46 @@ depths_small categories n c l = mul-le-mul {n₂ = 2048} {m₂ = 64} (chart_smal
 
 -- a lent row is refused where it is shorter than its size, and else passes
 module _ (size lent : ℕ) (refusal : Refusal) where
-  pub too_small : lent < size → refuse_if (ltb lent size) refusal ≡ Refused refusal
+  pub too_small : lent < size → refuse_if (ltb lent size) refusal ≡ Err refusal
   too_small h = rw (lt-ltb lent size h)
 
-  pub large_enough : size ≤ lent → refuse_if (ltb lent size) refusal ≡ Passed
+  pub large_enough : size ≤ lent → refuse_if (ltb lent size) refusal ≡ nothing_wrong
   large_enough h = rw (le-ltb lent size h)
 
 -- two checks pass where each does
-pub both_passed : (a b : Check) → and_then a b ≡ Passed → (a ≡ Passed) × (b ≡ Passed)
-both_passed Passed b e = (refl, e)
-both_passed (Refused refusal) b e = absurd (never e)
-  where
-    never : Refused refusal ≡ Passed → ⊥
-    never h = let z : ◌≡◌ {A = ℕ} 0 1 = cc in omega arith
+pub both_passed : (a b : Check) → and_then a b ≡ nothing_wrong → (a ≡ nothing_wrong) × (b ≡ nothing_wrong)
+both_passed (Ok u) b e = (refl, e)
+both_passed (Err refusal) b e = cc
 
-pub reported_passed : (c : Checks) → reported c ≡ Passed → (early c ≡ Passed) × (late c ≡ Passed)
+pub reported_passed : (c : Checks) → reported c ≡ nothing_wrong → (early c ≡ nothing_wrong) × (late c ≡ nothing_wrong)
 reported_passed c e = both_passed (early c) (late c) e
 
 -- a check finds one thing
-pub one_refusal : {c : Check} {r s : Refusal} → c ≡ Refused r → c ≡ Refused s → r ≡ s
+pub one_refusal : {c : Check} {r s : Refusal} → c ≡ Err r → c ≡ Err s → r ≡ s
 one_refusal p q = cc
 
-pub not_both : {c : Check} {r : Refusal} → c ≡ Refused r → c ≡ Passed → ⊥
-not_both p q = let z : ◌≡◌ {A = ℕ} 0 1 = cc in omega arith
+pub not_both : {c : Check} {r : Refusal} → c ≡ Err r → c ≡ nothing_wrong → ⊥
+not_both p q = cc
 
 -- a check that tells no refusal passes
-told_passed : (c : Check) → check_told c ≡ answered [] → c ≡ Passed
-told_passed Passed e = refl
-told_passed (Refused refusal) e = absurd (let z : ◌≡◌ {A = ℕ} 0 1 = cc in omega arith)
+told_passed : (c : Check) → check_told c ≡ answered [] → c ≡ nothing_wrong
+told_passed (Ok u) e = refl
+told_passed (Err refusal) e = cc
 
 -- a check that passes has no fault
-pub no_fault : (fault : Bool) (refusal : Refusal) → refuse_if fault refusal ≡ Passed → fault ≡ false
+pub no_fault : (fault : Bool) (refusal : Refusal) → refuse_if fault refusal ≡ nothing_wrong → fault ≡ false
 no_fault false refusal e = refl
-no_fault true refusal e = absurd (never e)
-  where
-    never : Refused refusal ≡ Passed → ⊥
-    never h = let z : ◌≡◌ {A = ℕ} 0 1 = cc in omega arith
+no_fault true refusal e = cc
 
 -- a category and a start that pass are of the grammar and of the line
-pub start_passed : (categories n A i : ℕ) → start_check categories n A i ≡ Passed → (A < categories) × (i ≤ n)
+pub start_passed : (categories n A i : ℕ) → start_check categories n A i ≡ nothing_wrong → (A < categories) × (i ≤ n)
 unfolding start_check
 start_passed categories n A i e =
     let p = both_passed (refuse_if (leb categories A) CategoryOutside) (refuse_if (ltb n i) StartOutside) e in
     (leb-false _ _ (no_fault (leb categories A) CategoryOutside p.0), ltb-false _ _ (no_fault (ltb n i) StartOutside p.1))
 
 -- and so are a category and a span
-pub span_passed : (categories n A i j : ℕ) → span_check categories n A i j ≡ Passed → (A < categories) × (i ≤ n) × (j ≤ n)
+pub span_passed : (categories n A i j : ℕ) → span_check categories n A i j ≡ nothing_wrong → (A < categories) × (i ≤ n) × (j ≤ n)
 unfolding span_check
 span_passed categories n A i j e =
     let p = both_passed (start_check categories n A i) _ e in
@@ -84,29 +78,29 @@ span_passed categories n A i j e =
     (s.0, s.1, ltb-false n j (no_fault (ltb n j) EndOutside q.0))
 
 -- memory that passes is large enough
-pub work_passed : (categories n words numbers : ℕ) → work_check categories n words numbers ≡ Passed → (chart_size categories n ≤ words) × (depths_size categories n ≤ numbers)
+pub work_passed : (categories n words numbers : ℕ) → work_check categories n words numbers ≡ nothing_wrong → (chart_size categories n ≤ words) × (depths_size categories n ≤ numbers)
 work_passed categories n words numbers e =
     let p = both_passed (chart_check categories n words) (depths_check categories n numbers) e in
     (ltb-false _ _ (no_fault _ ChartTooSmall p.0), ltb-false _ _ (no_fault _ DepthsTooSmall p.1))
 
 module _ (classes : ℕ) (line : List ℕ) where
-  tokens_step : (t : ℕ) → t < length line → tokens_from classes line (length line - t) t ≡ cond (ltb (get_or line t 0) classes) (tokens_from classes line (length line - (t + 1)) (t + 1)) (Refused (TokenNoClass t))
+  tokens_step : (t : ℕ) → t < length line → tokens_from classes line (length line - t) t ≡ cond (ltb (get_or line t 0) classes) (tokens_from classes line (length line - (t + 1)) (t + 1)) (Err (TokenNoClass t))
   unfolding tokens_from
   tokens_step t h = let z : length line - t ≡ suc (length line - (t + 1)) = omega arith in ap (λ (k : ℕ). tokens_from classes line k t) z
 
   -- a turn of the check: no token is left, this one is no class, or it is one
-  pub tokens_none : (t : ℕ) → length line ≤ t → tokens_from classes line (length line - t) t ≡ Passed
+  pub tokens_none : (t : ℕ) → length line ≤ t → tokens_from classes line (length line - t) t ≡ nothing_wrong
   unfolding tokens_from
   tokens_none t h = let z : length line - t ≡ 0 = omega arith in rw z
 
-  pub tokens_bad : (t : ℕ) → t < length line → classes ≤ get_or line t 0 → tokens_from classes line (length line - t) t ≡ Refused (TokenNoClass t)
+  pub tokens_bad : (t : ℕ) → t < length line → classes ≤ get_or line t 0 → tokens_from classes line (length line - t) t ≡ Err (TokenNoClass t)
   tokens_bad t h l = tokens_step t h ∙ rw (le-ltb (get_or line t 0) classes l)
 
   pub tokens_more : (t : ℕ) → t < length line → get_or line t 0 < classes → tokens_from classes line (length line - t) t ≡ tokens_from classes line (length line - (t + 1)) (t + 1)
   tokens_more t h l = tokens_step t h ∙ rw (lt-ltb (get_or line t 0) classes l)
 
   -- the whole check
-  pub line_long : 63 < length line → line_check classes line ≡ Refused LineTooLong
+  pub line_long : 63 < length line → line_check classes line ≡ Err LineTooLong
   unfolding line_check
   line_long h = rw (lt-ltb 63 (length line) h)
 
@@ -132,7 +126,7 @@ module _ (classes : ℕ) (line : List ℕ) where
       Next : Type 0
       Next = ((k : ℕ) → k < t + 1 → get_or line k 0 < classes) → LineOutcome classes line (check_told (tokens_from classes line left (t + 1)))
 
-      go : (ok : Bool) → ltb (get_or line t 0) classes ≡ ok → Next → LineOutcome classes line (check_told (cond (ltb (get_or line t 0) classes) (tokens_from classes line left (t + 1)) (Refused (TokenNoClass t))))
+      go : (ok : Bool) → ltb (get_or line t 0) classes ≡ ok → Next → LineOutcome classes line (check_told (cond (ltb (get_or line t 0) classes) (tokens_from classes line left (t + 1)) (Err (TokenNoClass t))))
       go true q next = rw q (next (below_more (λ k. get_or line k 0 < classes) t good (ltb-true (get_or line t 0) classes q)))
       go false q next = rw q (bad_token {t = t} short (record { inside = omega arith; no_class = ltb-false (get_or line t 0) classes q; first = good }))
 
@@ -155,8 +149,11 @@ module _ (classes : ℕ) (line : List ℕ) where
   outcome_unique (is_line x) (bad_token k y) = absurd (omega (arith, y.no_class, x.tokens _ y.inside))
   outcome_unique (is_line x) (is_line y) = refl
 
-  pub line_passed : (line_check classes line ≡ Passed) ↔ IsLine classes line
+  pub line_passed : (line_check classes line ≡ nothing_wrong) ↔ IsLine classes line
   line_passed = (λ e. passed (rw e at line_outcome), λ l. told_passed (line_check classes line) (outcome_unique line_outcome (is_line l)))
     where
       passed : LineOutcome classes line (answered []) → IsLine classes line
       passed (is_line l) = l
+
+-- the turns of the check of a line
+pub ruleset line_laws = (line_long, line_short, tokens_none, tokens_bad, tokens_more)

@@ -1,8 +1,7 @@
 -- The check of a line: 0 to 63 tokens, each a class of the grammar.
-use Rattle.std.specs.Prelude.{ℕ, zero, suc, ◌+◌, ◌≤◌, ◌<◌, cond, List, [], length, get_or, ltb}
+use Rattle.std.specs.Prelude.{ℕ, zero, suc, ◌+◌, ◌≤◌, ◌<◌, cond, List, [], length, get_or, ltb, Err}
 use Rattle.refusals.specs.declared.Refusal.TheVariants.{LineTooLong, TokenNoClass}
-use Rattle.refusals.specs.declared.Check.{Check}
-use Rattle.refusals.specs.declared.Check.TheVariants.{Passed, Refused}
+use Rattle.refusals.specs.Check.{Check, nothing_wrong}
 use Rattle.refusals.specs.Told.{Told, answered, refused}
 
 -- a line of a grammar with this many classes
@@ -24,9 +23,9 @@ pub data LineOutcome (classes : ℕ) (line : List ℕ) : Told → Type 0 where
 
 -- the check, computed: `count` tokens, from token t on
 unfoldable pub tokens_from : ℕ → List ℕ → ℕ → ℕ → Check
-tokens_from classes line zero t = Passed
-tokens_from classes line (suc count) t = cond (ltb (get_or line t 0) classes) (tokens_from classes line count (t + 1)) (Refused (TokenNoClass t))
+tokens_from classes line zero t = nothing_wrong
+tokens_from classes line (suc count) t = cond (ltb (get_or line t 0) classes) (tokens_from classes line count (t + 1)) (Err (TokenNoClass t))
 
 -- too long, or else the first token that is not below the number of classes
 unfoldable pub line_check : ℕ → List ℕ → Check
-line_check classes line = cond (ltb 63 (length line)) (Refused LineTooLong) (tokens_from classes line (length line) 0)
+line_check classes line = cond (ltb 63 (length line)) (Err LineTooLong) (tokens_from classes line (length line) 0)

@@ -1,7 +1,7 @@
 -- The check of each lent row of work memory: what a line of n tokens needs.
 use Rattle.std.specs.Prelude.{ℕ, ◌+◌, ◌*◌, ltb}
 use Rattle.refusals.specs.declared.Refusal.TheVariants.{ChartTooSmall, DepthsTooSmall}
-use Rattle.refusals.specs.declared.Check.{Check}
+use Rattle.refusals.specs.Check.{Check}
 use Rattle.refusals.specs.Order.{and_then}
 use Rattle.checks.specs.Question.{refuse_if}
 

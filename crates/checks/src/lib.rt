@@ -3,11 +3,11 @@
 
 ghost use Rattle.std.specs.Prelude.{◌≡◌, ◌≤◌};
 ghost use Rattle.checks.specs.Line.{line_check};
-ghost use Rattle.checks.specs.Question.{start_check, span_check, asked_check};
-ghost use Rattle.checks.specs.Memory.{chart_check, depths_check, work_check};
+ghost use Rattle.checks.specs.Question.{refuse_if, start_check, span_check, asked_check};
+ghost use Rattle.checks.specs.Memory.{work_check};
 ghost use Rattle.checks.specs.inner.Rest.{rest_check};
 
-use refusals::{Check, Refusal};
+use refusals::Refusal;
 
 // The numbers that a question asks with: none, a category and a start, a category and a span.
 #[derive(Clone, Copy)]
@@ -25,58 +25,59 @@ pub enum Asked {
 }
 
 // At most 63 tokens, each below the number of classes.
-fn check_line(classes: usize, line: &[u8]) -> Check
+#[tactic(auto, using(crate::proofs::Laws::line_laws))]
+fn check_line(classes: usize, line: &[u8]) -> Result<(), Refusal>
     ensures { result ≡ line_check classes line.now }
 {
     if 63 < line.len() {
-        return Check::Refused(Refusal::LineTooLong);
+        return Err(Refusal::LineTooLong);
     }
-    let mut token = 0;
-    while token < line.len() {
-        if classes <= line[token] as usize {
-            return Check::Refused(Refusal::TokenNoClass { token });
+    for (token, class) in line.iter().enumerate() {
+        if classes <= *class as usize {
+            return Err(Refusal::TokenNoClass { token });
         }
-        token += 1;
     }
-    Check::Passed
+    Ok(())
+}
+
+// A refusal where the fault is there.
+fn refuse_if(fault: bool, refusal: Refusal) -> Result<(), Refusal>
+    ensures { result ≡ refuse_if fault refusal }
+{
+    if fault { Err(refusal) } else { Ok(()) }
 }
 
 // A category of the grammar, and a start on a line of n tokens.
-fn check_start(categories: usize, n: usize, category: usize, start: usize) -> Check
+#[tactic(auto, unfolding(crate::specs::Question::start_check))]
+fn check_start(categories: usize, n: usize, category: usize, start: usize) -> Result<(), Refusal>
     ensures { result ≡ start_check categories n category start }
 {
-    if categories <= category {
-        return Check::Refused(Refusal::CategoryOutside);
-    }
-    if n < start {
-        return Check::Refused(Refusal::StartOutside);
-    }
-    Check::Passed
+    refuse_if(categories <= category, Refusal::CategoryOutside)?;
+    refuse_if(n < start, Refusal::StartOutside)
 }
 
 // A category of the grammar, and a span of a line of n tokens.
-fn check_span(categories: usize, n: usize, category: usize, start: usize, end: usize) -> Check
+#[tactic(auto, unfolding(crate::specs::Question::span_check))]
+fn check_span(
+    categories: usize,
+    n: usize,
+    category: usize,
+    start: usize,
+    end: usize,
+) -> Result<(), Refusal>
     ensures { result ≡ span_check categories n category start end }
 {
-    match check_start(categories, n, category, start) {
-        Check::Refused(refusal) => return Check::Refused(refusal),
-        Check::Passed => {}
-    }
-    if n < end {
-        return Check::Refused(Refusal::EndOutside);
-    }
-    if end < start {
-        return Check::Refused(Refusal::EndOutside);
-    }
-    Check::Passed
+    check_start(categories, n, category, start)?;
+    refuse_if(n < end, Refusal::EndOutside)?;
+    refuse_if(end < start, Refusal::EndOutside)
 }
 
 // What a question asks with, on a line of n tokens.
-fn check_asked(categories: usize, n: usize, asked: Asked) -> Check
+fn check_asked(categories: usize, n: usize, asked: Asked) -> Result<(), Refusal>
     ensures { result ≡ asked_check categories n asked }
 {
     match asked {
-        Asked::Nothing => Check::Passed,
+        Asked::Nothing => Ok(()),
         Asked::Start { category, start } => check_start(categories, n, category, start),
         Asked::Span {
             category,
@@ -86,37 +87,14 @@ fn check_asked(categories: usize, n: usize, asked: Asked) -> Check
     }
 }
 
-// Chart memory for a line of n tokens.
-fn check_chart(categories: usize, n: usize, words: usize) -> Check
-    requires { (categories ≤ 32) × (n ≤ 63) }
-    ensures { result ≡ chart_check categories n words }
-{
-    if words < categories * (n + 1) {
-        return Check::Refused(Refusal::ChartTooSmall);
-    }
-    Check::Passed
-}
-
-// Depth memory for a line of n tokens.
-fn check_depths(categories: usize, n: usize, numbers: usize) -> Check
-    requires { (categories ≤ 32) × (n ≤ 63) }
-    ensures { result ≡ depths_check categories n numbers }
-{
-    if numbers < categories * (n + 1) * (n + 1) {
-        return Check::Refused(Refusal::DepthsTooSmall);
-    }
-    Check::Passed
-}
-
-// Chart memory, then depth memory, for a line of n tokens.
-fn check_work(categories: usize, n: usize, words: usize, numbers: usize) -> Check
+// Chart memory, a word for each category and start, then depth memory, a number for each category, start and end, for a line of n tokens.
+fn check_work(categories: usize, n: usize, words: usize, numbers: usize) -> Result<(), Refusal>
     requires { (categories ≤ 32) × (n ≤ 63) }
     ensures { result ≡ work_check categories n words numbers }
 {
-    match check_chart(categories, n, words) {
-        Check::Refused(refusal) => Check::Refused(refusal),
-        Check::Passed => check_depths(categories, n, numbers),
-    }
+    let rows = categories * (n + 1);
+    refuse_if(words < rows, Refusal::ChartTooSmall)?;
+    refuse_if(numbers < rows * (n + 1), Refusal::DepthsTooSmall)
 }
 
 // What is left to check once a grammar of so many classes and categories is read: the line, the question's numbers, the work memory.
@@ -127,16 +105,11 @@ pub fn check_rest(
     asked: Asked,
     words: usize,
     numbers: usize,
-) -> Check
+) -> Result<(), Refusal>
     requires { categories ≤ 32 }
     ensures { result ≡ rest_check classes categories line.now asked words numbers }
 {
-    match check_line(classes, line) {
-        Check::Refused(refusal) => return Check::Refused(refusal),
-        Check::Passed => {}
-    }
-    match check_asked(categories, line.len(), asked) {
-        Check::Refused(refusal) => Check::Refused(refusal),
-        Check::Passed => check_work(categories, line.len(), words, numbers),
-    }
+    check_line(classes, line)?;
+    check_asked(categories, line.len(), asked)?;
+    check_work(categories, line.len(), words, numbers)
 }

@@ -1,11 +1,13 @@
 -- All that is looked at before the filling is right exactly where the question's first checks pass.
+use Rattle.std.proofs.Common.{Err, Ok, Result}
+use Rattle.refusals.specs.Check.{nothing_wrong}
+use Rattle.refusals.specs.declared.Refusal.{Refusal}
 use Prim.Native.Nat.{ℕ, ◌≤◌}
 use mathlib.Core.Path.{◌≡◌, refl, sym, ◌∙◌}
 use mathlib.Core.List.{List}
 use lib.ListN.{length}
 use borrow.Author.Tests.{le-ltb}
-use Rattle.refusals.specs.declared.Check.{Check}
-use Rattle.refusals.specs.declared.Check.TheVariants as check
+use Rattle.refusals.specs.Check.{Check}
 use Rattle.refusals.specs.Order.{early}
 use Rattle.derivation.specs.Grammar.{Grammar}
 use Rattle.checks.specs.Line.{line_check}
@@ -13,8 +15,6 @@ use Rattle.checks.specs.Question.{asked_check}
 use Rattle.checks.specs.Memory.{chart_size, depths_size, work_check}
 use Rattle.checks.proofs.Laws.{not_both, line_passed}
 use Rattle.grammar.specs.declared.reading.Sections.{Sections}
-use Rattle.grammar.specs.declared.reading.Reading.{Reading}
-use Rattle.grammar.specs.declared.reading.Reading.TheVariants.{Accepted, Refused}
 use Rattle.grammar.specs.Reading.{read_of}
 use Rattle.grammar.specs.Value.{grammar_of}
 use Rattle.grammar.specs.Given.{grammar_given}
@@ -29,7 +29,7 @@ use Rattle.demands.proofs.Right.{asked_of, numbers_right, right_numbers}
 
 -- bytes that encode a grammar are read as that grammar
 pub record ReadAs (G : Grammar) (g : List ℕ) (s : Sections) : Type 0 where
-  pub read : read_of g ≡ Accepted s
+  pub read : read_of g ≡ Ok s
   pub value : grammar_of g s ≡ G
   pub classes : s.classes ≡ length G.classes
   pub categories : s.categories ≡ length G.categories
@@ -49,7 +49,7 @@ encodes_read {G} {g} e =
       },
     )
 
-pub read_encodes : {g : List ℕ} {s : Sections} → read_of g ≡ Accepted s → Encodes (grammar_of g s) g
+pub read_encodes : {g : List ℕ} {s : Sections} → read_of g ≡ Ok s → Encodes (grammar_of g s) g
 read_encodes {g} {s} e = let a = accepted_encodes g s e in record { within = a.0; distinct = a.1; encoding = a.2 }
 
 -- the grammar that is given is the one that is encoded
@@ -61,15 +61,15 @@ abbrev pub PassesFor : (x : Input) (q : Query) → Sections → Type 0
 PassesFor x q s = Passes x.grammar x.line (asked_of q) (length x.words) (length x.depths) s
 
 -- memory that is large enough passes
-pub work_right : (categories n words numbers : ℕ) → chart_size categories n ≤ words → depths_size categories n ≤ numbers → work_check categories n words numbers ≡ check.Passed
+pub work_right : (categories n words numbers : ℕ) → chart_size categories n ≤ words → depths_size categories n ≤ numbers → work_check categories n words numbers ≡ nothing_wrong
 work_right categories n words numbers c d = rw (le-ltb words (chart_size categories n) c, le-ltb numbers (depths_size categories n) d)
 
 pub right_passes : {G : Grammar} {x : Input} {q : Query} → AllRight G x q → (s : Sections) × ReadAs G x.grammar s × PassesFor x q s
 right_passes {G} {x} {q} a =
     let e = encodes_read a.grammar in
-    let line : line_check e.0.classes x.line ≡ check.Passed = (line_passed e.0.classes x.line).1 (rw e.1.classes a.line) in
-    let asked : asked_check e.0.categories (length x.line) (asked_of q) ≡ check.Passed = rw e.1.categories (numbers_right _ (length x.line) q a.asked) in
-    let work : work_check e.0.categories (length x.line) (length x.words) (length x.depths) ≡ check.Passed = rw e.1.categories (work_right _ _ _ _ a.words a.depths) in
+    let line : line_check e.0.classes x.line ≡ nothing_wrong = (line_passed e.0.classes x.line).1 (rw e.1.classes a.line) in
+    let asked : asked_check e.0.categories (length x.line) (asked_of q) ≡ nothing_wrong = rw e.1.categories (numbers_right _ (length x.line) q a.asked) in
+    let work : work_check e.0.categories (length x.line) (length x.words) (length x.depths) ≡ nothing_wrong = rw e.1.categories (work_right _ _ _ _ a.words a.depths) in
     (e.0, e.1, record { read = e.1.read; rest = rw (line, asked, work) })
 
 pub passes_right : {x : Input} {q : Query} {s : Sections} → PassesFor x q s → AllRight (grammar_of x.grammar s) x q
@@ -85,9 +85,9 @@ passes_right {x} {q} {s} p =
     }
 
 -- where no refusal comes early, the first checks pass
-pub early_passes : (x : Input) (q : Query) (fact room : Check) → early (checks_of x.grammar x.line (asked_of q) x.words x.depths fact room) ≡ check.Passed → (s : Sections) × PassesFor x q s
+pub early_passes : (x : Input) (q : Query) (fact room : Check) → early (checks_of x.grammar x.line (asked_of q) x.words x.depths fact room) ≡ nothing_wrong → (s : Sections) × PassesFor x q s
 early_passes x q fact room e = go (read_of x.grammar) refl e
   where
-    go : (r : Reading) → read_of x.grammar ≡ r → early (checks_of x.grammar x.line (asked_of q) x.words x.depths fact room) ≡ check.Passed → (s : Sections) × PassesFor x q s
-    go (Refused refusal) read h = absurd (not_both refl (rw read at h))
-    go (Accepted s) read h = (s, record { read = read; rest = rw read at h })
+    go : (r : Result Sections Refusal) → read_of x.grammar ≡ r → early (checks_of x.grammar x.line (asked_of q) x.words x.depths fact room) ≡ nothing_wrong → (s : Sections) × PassesFor x q s
+    go (Err refusal) read h = absurd (not_both refl (rw read at h))
+    go (Ok s) read h = (s, record { read = read; rest = rw read at h })

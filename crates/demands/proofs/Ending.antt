@@ -1,4 +1,6 @@
 -- How a question ends: turned down before the filling, turned down after it, or with an answer.
+use Rattle.std.proofs.Common.{Err, Ok}
+use Rattle.refusals.specs.Check.{nothing_wrong}
 use Prim.Native.Nat.{ℕ}
 use mathlib.Core.Path.{◌≡◌, refl, sym, ap, ◌∙◌}
 use mathlib.Core.Logic.{inl, inr}
@@ -10,8 +12,7 @@ use lib.Dec.{ltb}
 use borrow.Author.Tests.{ltb-true}
 use Rattle.refusals.specs.declared.Refusal.{Refusal}
 use Rattle.refusals.specs.declared.Row.{Row}
-use Rattle.refusals.specs.declared.Check.{Check}
-use Rattle.refusals.specs.declared.Check.TheVariants as check
+use Rattle.refusals.specs.Check.{Check}
 use Rattle.refusals.specs.Order.{and_then}
 use Rattle.checks.specs.Question.{refuse_if}
 use Rattle.refusals.specs.Row.{row_of}
@@ -40,22 +41,22 @@ abbrev pub Worked : (x : Input) {q : Query} → Result q → Type 0
 Worked x r = WorkFilled (grammar_given x.grammar) x.line x.words x.depths r.words r.depths
 
 pub data Ending (x : Input) (q : Query) (r : Result q) : Type 0 where
-  before : (refusal : Refusal) → first x q ≡ check.Refused refusal → r.told ≡ refused (row_of refusal) →
+  before : (refusal : Refusal) → first x q ≡ Err refusal → r.told ≡ refused (row_of refusal) →
       r.words ≡ x.words → r.depths ≡ x.depths → r.row ≡ row_before q → Ending x q r
-  after : (row : Row) → first x q ≡ check.Passed → r.told ≡ refused row → TurnedDown x q row → LateNumber row.number →
+  after : (row : Row) → first x q ≡ nothing_wrong → r.told ≡ refused row → TurnedDown x q row → LateNumber row.number →
       Worked x r → r.row ≡ row_before q → Ending x q r
-  answers : (values : List ℕ) → first x q ≡ check.Passed → r.told ≡ answered values → Worked x r → Ending x q r
+  answers : (values : List ℕ) → first x q ≡ nothing_wrong → r.told ≡ answered values → Worked x r → Ending x q r
 
 -- where the first checks pass all is right, for the grammar that is given
-pub all_right_lem : (x : Input) (q : Query) → first x q ≡ check.Passed → AllRight (grammar_given x.grammar) x q
-all_right_lem x q e = let p = early_passes x q check.Passed check.Passed e in rw (grammar_is p.1) (passes_right p.1)
+pub all_right_lem : (x : Input) (q : Query) → first x q ≡ nothing_wrong → AllRight (grammar_given x.grammar) x q
+all_right_lem x q e = let p = early_passes x q nothing_wrong nothing_wrong e in rw (grammar_is p.1) (passes_right p.1)
 
-and_passed : (c : Check) → and_then c check.Passed ≡ c
-and_passed check.Passed = refl
-and_passed (check.Refused refusal) = refl
+and_passed : (c : Check) → and_then c nothing_wrong ≡ c
+and_passed (Ok u) = refl
+and_passed (Err refusal) = refl
 
 -- a refusal that is given is given for its fault
-fault_found : (fault : Bool) {r refusal : Refusal} → refuse_if fault r ≡ check.Refused refusal → (fault ≡ true) × (r ≡ refusal)
+fault_found : (fault : Bool) {r refusal : Refusal} → refuse_if fault r ≡ Err refusal → (fault ≡ true) × (r ≡ refusal)
 fault_found true e = (refl, cc)
 fault_found false e = absurd (let z : ◌≡◌ {A = ℕ} 0 1 = cc in omega arith)
 

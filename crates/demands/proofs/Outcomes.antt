@@ -1,11 +1,11 @@
 -- One result for every input, refusals as the table says, and what memory then holds.
+use Rattle.refusals.specs.Check.{nothing_wrong}
 use Prim.Native.Nat.{ℕ}
 use mathlib.Core.Path.{◌≡◌, refl, sym, ap, ◌∙◌}
 use mathlib.Core.Logic.{inl, inr}
 use mathlib.Core.List.{List}
 use native.Mathlib.Omega.{arith}
 use Rattle.refusals.specs.declared.Row.{Row}
-use Rattle.refusals.specs.declared.Check.TheVariants as check
 use Rattle.refusals.specs.Row.{row_of}
 use Rattle.refusals.specs.Told.{Told, answered, refused}
 use Rattle.derivation.specs.Grammar.{Grammar}
@@ -86,12 +86,12 @@ module _ (x : Input) (q : Query) (r : Result q) where
   early_told (refusal, f, same) (ends_by.answers values e t y) = absurd (not_both f e)
 
   -- the work memory is filled where the first checks pass
-  pub worked : first x q ≡ check.Passed → Ending x q r → Worked x r
+  pub worked : first x q ≡ nothing_wrong → Ending x q r → Worked x r
   worked p (before other e t w d m) = absurd (not_both e p)
   worked p (after other e t down k y m) = y
   worked p (ends_by.answers values e t y) = y
 
-  pub right_fills : first x q ≡ check.Passed → Ending x q r → Fills r.told
+  pub right_fills : first x q ≡ nothing_wrong → Ending x q r → Fills r.told
   right_fills p (before other e t w d m) = absurd (not_both e p)
   right_fills p (after other e t down k y m) = rw t (late k)
   right_fills p (ends_by.answers values e t y) = rw t answers
@@ -100,7 +100,7 @@ module _ (x : Input) (q : Query) (r : Result q) where
   early_fills : {row : Row} → EarlyNumber row.number → Fills (refused row) → ⊥
   early_fills n (late k) = not_both_numbers n k
 
-  pub fills_passed : Ending x q r → Fills r.told → first x q ≡ check.Passed
+  pub fills_passed : Ending x q r → Fills r.told → first x q ≡ nothing_wrong
   fills_passed (before refusal e t w d m) f = absurd (early_fills (early_listed x q refusal e).1 (rw t at f))
   fills_passed (after other e t down k y m) f = e
   fills_passed (ends_by.answers values e t y) f = e

@@ -1,4 +1,5 @@
 -- What the program prints of a job that was read is what the questions report.
+use Rattle.std.proofs.Common.{Err, Ok}
 use Prim.Native.Nat.{ℕ}
 use mathlib.Core.Path.{◌≡◌, refl, sym, ap, ◌∙◌}
 use mathlib.Core.Bool.{cond}
@@ -23,10 +24,8 @@ use Rattle.grammar.specs.Given.{grammar_given}
 use Rattle.chart.specs.Told.{chart_told}
 use Rattle.chart.specs.ChartOutcome as chart-outcome
 use Rattle.marks.proofs.Unique.{length_listed, mark_computed}
-use Rattle.tree.specs.declared.TreeAnswer.TheVariants as tree-answer
 use Rattle.lines.specs.Lines.{numbered}
 use Rattle.report.specs.declared.job.Job.{Job}
-use Rattle.report.specs.declared.job.JobReading.TheVariants.{Read}
 use Rattle.report.specs.Job.{job_of, questions_part}
 use Rattle.report.specs.Printed.{lent_tree, refused_line, rounds_line, fact_line, fact_lines, marks_line, tree_lines, answer_pieces, chart_pieces, pieces, printed}
 use Rattle.report.proofs.AnswerLaws as laws
@@ -99,10 +98,10 @@ module _ {G : Grammar} (input : List ℕ) (job : Job) (right : AllRight G (job_i
       query = tree s.category s.start s.end lent_tree
 
       go : Allowed asked query (result_exists asked query).0 → PrintsTree G asked s (tree_lines asked.grammar asked.line s)
-      go (tree-answer.Refused refusal, tells, o) =
+      go (Err refusal, tells, o) =
           let verdict = laws.tree_refused _ _ _ _ _ _ _ _ o in
           refused_tree (row_of refusal) (told_listed asked query _ (ending asked query _ (result_exists asked query).1) (row_of refusal) (sym tells)) (rw verdict (ap (λ (l : List ℕ). numbered "tree" (span_numbers s) ++ l) (append-nil (refused_line (row_of refusal)))))
-      go (tree-answer.Nodes count, tells, o) =
+      go (Ok count, tells, o) =
           let report : Reports G asked query (result_exists asked query).0 = record { grammar = right.grammar; allowed = (result_exists asked query).1; fills = rw (← tells) answers } in
           let shows = (tree_shown report (count ∷ []) (sym tells)).2 in
           let t = shows.tree in
@@ -115,7 +114,7 @@ module _ {G : Grammar} (input : List ℕ) (job : Job) (right : AllRight G (job_i
   trees_printed (s ∷ rest) = then_tree (tree_printed s) (trees_printed rest)
 
 -- a refusal is the only line
-pub refusal_printed : (input : List ℕ) (job : Job) → job_of input ≡ Read job → (row : Row) → TurnedDown (job_input input job) chart row → printed input ≡ refused_line row
+pub refusal_printed : (input : List ℕ) (job : Job) → job_of input ≡ Ok job → (row : Row) → TurnedDown (job_input input job) chart row → printed input ≡ refused_line row
 unfolding printed pieces chart_pieces flatten
 refusal_printed input job read row down = go (result_exists x chart).1
   where
@@ -130,7 +129,7 @@ refusal_printed input job read row down = go (result_exists x chart).1
         rw (read, e, same) (append-nil _)
 
 -- what is printed is the facts, the marks and the trees
-pub answers_printed : (input : List ℕ) (job : Job) → job_of input ≡ Read job → {G : Grammar} → AllRight G (job_input input job) chart → PrintsAnswers G (job_input input job) (questions_part input job) (printed input)
+pub answers_printed : (input : List ℕ) (job : Job) → job_of input ≡ Ok job → {G : Grammar} → AllRight G (job_input input job) chart → PrintsAnswers G (job_input input job) (questions_part input job) (printed input)
 unfolding printed pieces chart_pieces answer_pieces flatten
 answers_printed input job read {G} right =
     let x = job_input input job in

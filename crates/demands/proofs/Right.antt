@@ -1,4 +1,6 @@
 -- What a question's first checks find, in the words of the document's table.
+use Rattle.std.proofs.Common.{Err, Ok}
+use Rattle.refusals.specs.Check.{nothing_wrong}
 use Prim.Native.Nat.{ℕ, ◌≤◌, ◌<◌}
 use mathlib.Core.Path.{◌≡◌, refl, ap, ◌∙◌}
 use mathlib.Core.List.{List}
@@ -10,8 +12,7 @@ use lib.Dec.{ltb}
 use borrow.Author.Tests.{lt-ltb, le-ltb, le-leb, lt-leb}
 use Rattle.refusals.specs.declared.Refusal.{Refusal}
 use Rattle.refusals.specs.declared.Refusal.TheVariants.{CategoryOutside, StartOutside, EndOutside}
-use Rattle.refusals.specs.declared.Check.{Check}
-use Rattle.refusals.specs.declared.Check.TheVariants.{Passed, Refused}
+use Rattle.refusals.specs.Check.{Check}
 use Rattle.refusals.specs.Row.{row_of}
 use Rattle.checks.specs.declared.Asked.{Asked}
 use Rattle.checks.specs.declared.Asked.TheVariants.{Nothing, Start, Span}
@@ -35,8 +36,8 @@ module _ (categories n : ℕ) where
 
   -- the check of a question's numbers finds the lowest place that is wrong, or nothing
   data NumbersOutcome (q : Query) : Check → Type 0 where
-    wrong : {place : ℕ} {refusal : Refusal} → FirstWrong categories n (numbers q) place → row_of refusal ≡ by 8 place → NumbersOutcome q (Refused refusal)
-    right : AllNumbers q → NumbersOutcome q Passed
+    wrong : {place : ℕ} {refusal : Refusal} → FirstWrong categories n (numbers q) place → row_of refusal ≡ by 8 place → NumbersOutcome q (Err refusal)
+    right : AllNumbers q → NumbersOutcome q nothing_wrong
 
   ends_outcome : (A i : ℕ) → NumbersOutcome (ends A i) (start_check categories n A i)
   unfolding start_check
@@ -79,11 +80,11 @@ module _ (categories n : ℕ) where
           (right (λ k h. record { category = λ e. (all 0 (omega arith)).category refl; start = λ e. (all 1 (omega arith)).start refl; end = λ e. (u, l) }))
 
       first : (c : Check) → NumbersOutcome (ends A i) c → NumbersOutcome (tree A i j row) (and_then c (and_then (refuse_if (ltb n j) EndOutside) (refuse_if (ltb j i) EndOutside)))
-      first (Refused refusal) (wrong {place = place} f e) =
+      first (Err refusal) (wrong {place = place} f e) =
           wrong {place = place}
           (record { inside = omega (arith, f.inside); wrong = λ r. f.wrong (record { category = r.category; start = r.start; end = λ e. absurd (omega (arith, f.inside)) }); lowest = λ k h. earlier k (omega (arith, f.inside)) (f.lowest k h) })
           e
-      first Passed (right all) = second all (dec_le j n) (dec_le i j)
+      first (Ok u) (right all) = second all (dec_le j n) (dec_le i j)
 
   numbers_outcome : (q : Query) → NumbersOutcome q (asked_check categories n (asked_of q))
   numbers_outcome chart = right (λ k l. absurd (omega arith))
@@ -101,28 +102,28 @@ module _ (categories n : ℕ) where
       go (no a) (yes b) = absurd (h.wrong (f.lowest l b))
       go (no a) (no b) = omega arith
 
-  pub numbers_wrong : (q : Query) {place : ℕ} → FirstWrong categories n (numbers q) place → (refusal : Refusal) × (asked_check categories n (asked_of q) ≡ Refused refusal) × (row_of refusal ≡ by 8 place)
+  pub numbers_wrong : (q : Query) {place : ℕ} → FirstWrong categories n (numbers q) place → (refusal : Refusal) × (asked_check categories n (asked_of q) ≡ Err refusal) × (row_of refusal ≡ by 8 place)
   numbers_wrong q {place} f = go (asked_check categories n (asked_of q)) (numbers_outcome q)
     where
-      go : (c : Check) → NumbersOutcome q c → (refusal : Refusal) × (c ≡ Refused refusal) × (row_of refusal ≡ by 8 place)
-      go (Refused refusal) (wrong h e) = (refusal, refl, e ∙ ap (by 8) (first_one (numbers q) h f))
-      go Passed (right all) = absurd (f.wrong (all place f.inside))
+      go : (c : Check) → NumbersOutcome q c → (refusal : Refusal) × (c ≡ Err refusal) × (row_of refusal ≡ by 8 place)
+      go (Err refusal) (wrong h e) = (refusal, refl, e ∙ ap (by 8) (first_one (numbers q) h f))
+      go (Ok u) (right all) = absurd (f.wrong (all place f.inside))
 
-  pub numbers_right : (q : Query) → AllNumbers q → asked_check categories n (asked_of q) ≡ Passed
+  pub numbers_right : (q : Query) → AllNumbers q → asked_check categories n (asked_of q) ≡ nothing_wrong
   numbers_right q all = go (asked_check categories n (asked_of q)) (numbers_outcome q)
     where
-      go : (c : Check) → NumbersOutcome q c → c ≡ Passed
-      go (Refused refusal) (wrong f e) = absurd (f.wrong (all _ f.inside))
-      go Passed (right h) = refl
+      go : (c : Check) → NumbersOutcome q c → c ≡ nothing_wrong
+      go (Err refusal) (wrong f e) = absurd (f.wrong (all _ f.inside))
+      go (Ok u) (right h) = refl
 
-  pub right_numbers : (q : Query) → asked_check categories n (asked_of q) ≡ Passed → AllNumbers q
+  pub right_numbers : (q : Query) → asked_check categories n (asked_of q) ≡ nothing_wrong → AllNumbers q
   right_numbers q e = go (rw e at (numbers_outcome q))
     where
-      go : NumbersOutcome q Passed → AllNumbers q
+      go : NumbersOutcome q nothing_wrong → AllNumbers q
       go (right all) = all
 
-  pub wrong_numbers : (q : Query) (refusal : Refusal) → asked_check categories n (asked_of q) ≡ Refused refusal → (place : ℕ) × FirstWrong categories n (numbers q) place × (row_of refusal ≡ by 8 place)
+  pub wrong_numbers : (q : Query) (refusal : Refusal) → asked_check categories n (asked_of q) ≡ Err refusal → (place : ℕ) × FirstWrong categories n (numbers q) place × (row_of refusal ≡ by 8 place)
   wrong_numbers q refusal e = go (rw e at (numbers_outcome q))
     where
-      go : NumbersOutcome q (Refused refusal) → (place : ℕ) × FirstWrong categories n (numbers q) place × (row_of refusal ≡ by 8 place)
+      go : NumbersOutcome q (Err refusal) → (place : ℕ) × FirstWrong categories n (numbers q) place × (row_of refusal ≡ by 8 place)
       go (wrong {place = place} f h) = (place, f, h)

@@ -1,5 +1,5 @@
 -- The user's three demands, each a statement over the results that the questions' own outcomes allow.
-use Rattle.std.specs.Prelude.{ℕ, ◌+◌, ◌*◌, ◌-◌, ◌≤◌, ◌<◌, ◌≡◌, ◌↔◌, List, [], ◌∷◌, ◌++◌, map, length, get_or, drop}
+use Rattle.std.specs.Prelude.{ℕ, ◌+◌, ◌*◌, ◌-◌, ◌≤◌, ◌<◌, ◌≡◌, ◌↔◌, List, [], ◌∷◌, ◌++◌, map, length, get_or, drop, Ok}
 use Rattle.refusals.specs.declared.Row.{Row}
 use Rattle.refusals.specs.Told.{Told, answered, refused}
 use Rattle.positions.specs.Member.{Member}
@@ -20,7 +20,6 @@ use Rattle.tree.specs.Bytes.{bytes}
 use Rattle.forest.specs.declared.Branch.{Branch}
 use Rattle.forest.specs.Record.{record_of}
 use Rattle.report.specs.declared.job.Job.{Job}
-use Rattle.report.specs.declared.job.JobReading.TheVariants.{Read}
 use Rattle.report.specs.Job.{job_of, questions_part}
 use Rattle.report.specs.Printed.{refused_line, printed}
 use Rattle.demands.specs.Question.{Input, Query, chart, ends, marks, tree, forest, row_before, Result, Allowed}
@@ -59,7 +58,7 @@ pub record Demand1 : Type 0 where
       KeptPast (chart_size (length G.categories) (length x.line)) x.words r.words
       × KeptPast (depths_size (length G.categories) (length x.line)) x.depths r.depths
   -- of a job that was read, the program prints a refusal of grammar, line or memory as the only line
-  pub output : (input : List ℕ) (job : Job) → job_of input ≡ Read job →
+  pub output : (input : List ℕ) (job : Job) → job_of input ≡ Ok job →
       (row : Row) → TurnedDown (job_input input job) chart row → printed input ≡ refused_line row
 
 -- a question on x that filled the work memory ends with r; G is the grammar
@@ -102,7 +101,7 @@ pub record Demand2 : Type 0 where
       (values : List ℕ) → r.told ≡ answered values →
       (secret : ℕ) × (values ≡ secret ∷ []) × ShowsMarks G x.line secret row r.row
   -- of such a job, the program prints the facts, the marks and, for each question, the tree or the refusal
-  pub output : (input : List ℕ) (job : Job) → job_of input ≡ Read job →
+  pub output : (input : List ℕ) (job : Job) → job_of input ≡ Ok job →
       {G : Grammar} → AllRight G (job_input input job) chart → PrintsAnswers G (job_input input job) (questions_part input job) (printed input)
 
 -- the number kept for (A, i, j)

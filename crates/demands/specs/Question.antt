@@ -1,19 +1,18 @@
 -- The five questions under one name: what is handed in, and the results that a question's own outcome allows.
+use Rattle.refusals.specs.declared.Refusal.{Refusal}
 use Rattle.std.specs.Prelude.{ℕ, ◌≡◌, List, [], ◌∷◌}
+use Rattle.std.specs.Prelude as std
 use Rattle.refusals.specs.Told.{Told}
 use Rattle.chart.specs.declared.ChartAnswer.{ChartAnswer}
 use Rattle.chart.specs.declared.EndsAnswer.{EndsAnswer}
 use Rattle.chart.specs.Told.{chart_told, ends_told}
 use Rattle.chart.specs.ChartOutcome.{ChartOutcome}
 use Rattle.chart.specs.EndsOutcome.{EndsOutcome}
-use Rattle.marks.specs.declared.MarksAnswer.{MarksAnswer}
 use Rattle.marks.specs.Told.{marks_told}
 use Rattle.marks.specs.Outcome.{MarksOutcome}
-use Rattle.tree.specs.declared.TreeAnswer.{TreeAnswer}
 use Rattle.tree.specs.Told.{tree_told}
 use Rattle.tree.specs.Outcome.{TreeOutcome}
 use Rattle.forest.specs.declared.Branch.{Branch}
-use Rattle.forest.specs.declared.ForestAnswer.{ForestAnswer}
 use Rattle.forest.specs.Told.{forest_told}
 use Rattle.forest.specs.Outcome.{ForestOutcome}
 
@@ -66,17 +65,17 @@ pub record Result (q : Query) : Type 0 where
 -- the question's own outcome allows this result
 abbrev pub Allowed : (x : Input) (q : Query) → Result q → Type 0
 Allowed x chart r =
-    (answer : ChartAnswer) × (chart_told answer ≡ r.told)
+    (answer : std.Result ChartAnswer Refusal) × (chart_told answer ≡ r.told)
     × ChartOutcome x.grammar x.line x.words x.depths answer r.words r.depths
 Allowed x (ends A i) r =
-    (answer : EndsAnswer) × (ends_told answer ≡ r.told)
+    (answer : std.Result EndsAnswer Refusal) × (ends_told answer ≡ r.told)
     × EndsOutcome x.grammar x.line A i x.words x.depths answer r.words r.depths
 Allowed x (marks row) r =
-    (answer : MarksAnswer) × (marks_told answer ≡ r.told)
+    (answer : std.Result ℕ Refusal) × (marks_told answer ≡ r.told)
     × MarksOutcome x.grammar x.line x.words x.depths row answer r.words r.depths r.row
 Allowed x (tree A i j row) r =
-    (answer : TreeAnswer) × (tree_told answer ≡ r.told)
+    (answer : std.Result ℕ Refusal) × (tree_told answer ≡ r.told)
     × TreeOutcome x.grammar x.line A i j x.words x.depths row answer r.words r.depths r.row
 Allowed x (forest rows) r =
-    (answer : ForestAnswer) × (forest_told answer ≡ r.told)
+    (answer : std.Result ℕ Refusal) × (forest_told answer ≡ r.told)
     × ForestOutcome x.grammar x.line x.words x.depths rows answer r.words r.depths r.row

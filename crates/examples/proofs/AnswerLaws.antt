@@ -1,4 +1,6 @@
 -- An accepted grammar: the question is answered, or turned down after the filling, and the work memory is filled.
+use Rattle.std.proofs.Common.{Err, Ok}
+use Rattle.refusals.specs.Check.{nothing_wrong}
 use Prim.Native.Nat.{ℕ, ◌+◌, ◌*◌, ◌≤◌, ◌<◌}
 use mathlib.Core.Path.{◌≡◌, refl, sym, ap, ◌∙◌}
 use mathlib.Core.Bool.{Bool, true, false, true≢false, cond}
@@ -7,8 +9,7 @@ use native.Mathlib.Omega.{arith}
 use lib.ListN.{length, get_or, length-map}
 use borrow.Author.Tests.{le-ltb}
 use Rattle.refusals.specs.declared.Refusal.TheVariants.{TreeOfNoFact}
-use Rattle.refusals.specs.declared.Check.{Check}
-use Rattle.refusals.specs.declared.Check.TheVariants as check
+use Rattle.refusals.specs.Check.{Check}
 use Rattle.refusals.specs.Row.{row_of}
 use Rattle.refusals.specs.Order.{early}
 use Rattle.refusals.specs.Told.{Told, answered, refused}
@@ -37,27 +38,21 @@ use Rattle.checks.specs.declared.Asked.TheVariants.{Nothing, Start, Span}
 use Rattle.checks.specs.Line.{line_check}
 use Rattle.checks.specs.Question.{start_check, span_check, asked_check}
 use Rattle.checks.proofs.Laws.{start_passed}
-use Rattle.grammar.specs.declared.reading.Reading.TheVariants.{Accepted}
 use Rattle.grammar.specs.Reading.{read_of}
 use Rattle.grammar.specs.Given.{sections_given, grammar_given}
 use Rattle.grammar.proofs.Accepted.{accepted}
 use Rattle.grammar.proofs.Encoded.{category_count_lem, accepted_proper}
 use Rattle.filling.specs.Filled.{WorkFilled}
-use Rattle.chart.specs.declared.ChartAnswer.TheVariants as chart-answer
-use Rattle.chart.specs.declared.EndsAnswer.TheVariants as ends-answer
 use Rattle.chart.specs.Checks.{checks_of}
 use Rattle.chart.specs.ChartOutcome as chart-outcome
 use Rattle.chart.specs.EndsOutcome as ends_outcome
 use Rattle.chart.proofs.CheckLaws.{Passes, line_is, early_passed}
 use Rattle.chart.proofs.CountLaws.{row_fits}
-use Rattle.marks.specs.declared.MarksAnswer.TheVariants as marks-answer
 use Rattle.marks.specs.Marks.{MarksAre}
 use Rattle.marks.proofs.Unique.{length_listed, mark_computed}
 use Rattle.marks.proofs.OutcomeLaws.{marks_answered}
-use Rattle.tree.specs.declared.TreeAnswer.TheVariants as tree-answer
 use Rattle.tree.specs.Bytes.{node_bytes, bytes}
 use Rattle.tree.specs.Outcome as tree_outcome
-use Rattle.forest.specs.declared.ForestAnswer.TheVariants as forest-answer
 use Rattle.forest.specs.Record.{record_of}
 use Rattle.forest.specs.Outcome as forest-outcome
 use Rattle.examples.specs.Entry.{Graded, Question, chart, ends, marks, tree, forest, holding}
@@ -82,7 +77,7 @@ marks_are G line new row proper e room =
       ones = total_same _ _ (length line) (λ t l. sym (at t l));
     }
 
-module _ (g line : List ℕ) (read : read_of g ≡ Accepted (sections_given g)) (is-line : line_check (sections_given g).classes line ≡ check.Passed) (facts : List Graded) (filled : work_test g line facts ≡ true) where
+module _ (g line : List ℕ) (read : read_of g ≡ Ok (sections_given g)) (is-line : line_check (sections_given g).classes line ≡ nothing_wrong) (facts : List Graded) (filled : work_test g line facts ≡ true) where
   abbrev G : Grammar
   G = grammar_given g
 
@@ -94,10 +89,10 @@ module _ (g line : List ℕ) (read : read_of g ≡ Accepted (sections_given g)) 
 
   module _ (words depths : List ℕ) (lent : Lent g line words depths) where
     -- the first checks pass where the question's own does
-    first : (asked : Asked) → asked_check (sections_given g).categories (length line) asked ≡ check.Passed → Passes g line asked (length words) (length depths) (sections_given g)
+    first : (asked : Asked) → asked_check (sections_given g).categories (length line) asked ≡ nothing_wrong → Passes g line asked (length words) (length depths) (sections_given g)
     first asked q = record { read = read; rest = rw (is-line, q, ← categories, le-ltb _ _ lent.words_enough, le-ltb _ _ lent.depths_enough) }
 
-    passed : (asked : Asked) (fact room : Check) → asked_check (sections_given g).categories (length line) asked ≡ check.Passed → early (checks_of g line asked words depths fact room) ≡ check.Passed
+    passed : (asked : Asked) (fact room : Check) → asked_check (sections_given g).categories (length line) asked ≡ nothing_wrong → early (checks_of g line asked words depths fact room) ≡ nothing_wrong
     passed asked fact room q = early_passed words depths fact room (first asked q)
 
     work : WorkFilled G line words depths (words_after g line (holding facts) words) (depths_after g line (holding facts) depths)
@@ -106,10 +101,10 @@ module _ (g line : List ℕ) (read : read_of g ≡ Accepted (sections_given g)) 
   chart_holds : (told : Told) → answer_test g line facts chart told ≡ true → OutcomeIs g line chart told (holding facts)
   unfolding answer_test
   chart_holds told t = λ words depths lent. chart_only (
-    chart-answer.Filled (rounds_of G line) (fact_count G line),
+    Ok (record { rounds = rounds_of G line; facts = fact_count G line }),
     sym (told_is told _ t),
     chart-outcome.filled {rounds = rounds_of G line} {facts = fact_list G line}
-        (rw (passed words depths lent Nothing check.Passed check.Passed refl))
+        (rw (passed words depths lent Nothing nothing_wrong nothing_wrong refl))
         (ap (λ (n : ℕ). answered (rounds_of G line ∷ n ∷ [])) (sym (length_fact_list G line)))
         (rounds_of_is G line proper)
         (fact_list_is G line proper)
@@ -125,10 +120,10 @@ module _ (g line : List ℕ) (read : read_of g ≡ Accepted (sections_given g)) 
       let inside = start_passed (sections_given g).categories (length line) A i question in
       let shows = word_shows g line proper facts filled A i (rw categories inside.0) inside.1 in
       λ words depths lent. ends_only (
-        ends-answer.Row row (count_below 64 row) (smallest_of row) (largest_of row),
+        Ok (record { row = row; ends = count_below 64 row; smallest = smallest_of row; largest = largest_of row }),
         sym (told_is told _ p.1),
         ends_outcome.found {row = row} {count = count_below 64 row} {smallest = smallest_of row} {largest = largest_of row}
-            (rw (passed words depths lent (Start A i) check.Passed check.Passed question))
+            (rw (passed words depths lent (Start A i) nothing_wrong nothing_wrong question))
             refl
             shows
             refl
@@ -144,13 +139,13 @@ module _ (g line : List ℕ) (read : read_of g ≡ Accepted (sections_given g)) 
       let is = same_is new (of-line.marks G line) p.0 in
       let long : length new ≡ length line = rw is (length_listed _ 0 (length line)) in
       λ words depths row lent room. marks_only (
-        marks-answer.Marked secret,
+        Ok secret,
         sym (told_is told _ p.1),
         marks_answered g line words depths row (sections_given g) (first words depths lent Nothing refl) secret _ _ (overwritten new row) (omega arith) (work words depths lent)
             (marks_are G line new row proper is (omega arith)),
       )
 
-  tree_holds : (A i j : ℕ) (nodes : List NodeValue) (told : Told) → span_check (sections_given g).categories (length line) A i j ≡ check.Passed → (c : Bool) → is_fact.facts G line A i j ≡ c → tree_test g line A i j nodes told c ≡ true →
+  tree_holds : (A i j : ℕ) (nodes : List NodeValue) (told : Told) → span_check (sections_given g).categories (length line) A i j ≡ nothing_wrong → (c : Bool) → is_fact.facts G line A i j ≡ c → tree_test g line A i j nodes told c ≡ true →
       OutcomeIs g line (tree A i j nodes) told (holding facts)
   unfolding tree_test bytes
   tree_holds A i j nodes told question true fact t =
@@ -158,11 +153,11 @@ module _ (g line : List ℕ) (read : read_of g ≡ Accepted (sections_given g)) 
       let chosen = chosen_exists G line proper (depth_exists G line ((facts_exact G line proper A i j).0 fact)).1 in
       let is : nodes ≡ preorder chosen.0 = same_by_lem node_bytes node_one nodes (shown G line A i j) p.0 ∙ chosen.3 in
       λ words depths row lent room. tree_only (
-        tree-answer.Nodes (length nodes),
+        Ok (length nodes),
         sym (told_is told _ p.1),
         tree_outcome.shows
             chosen.0
-            (passed words depths lent (Span A i j) check.Passed check.Passed question)
+            (passed words depths lent (Span A i j) nothing_wrong nothing_wrong question)
             chosen.1
             (rw is at room)
             (ap (λ (l : List NodeValue). answered (length l ∷ [])) is)
@@ -173,10 +168,10 @@ module _ (g line : List ℕ) (read : read_of g ≡ Accepted (sections_given g)) 
       let p = and_parts (same_by node_bytes nodes []) (same_told told (refused (row_of TreeOfNoFact))) t in
       let none = same_by_lem node_bytes node_one nodes [] p.0 in
       λ words depths row lent room. tree_only (
-        tree-answer.Refused TreeOfNoFact,
+        Err TreeOfNoFact,
         sym (told_is told _ p.1),
         tree_outcome.no_fact
-            (passed words depths lent (Span A i j) check.Passed check.Passed question)
+            (passed words depths lent (Span A i j) nothing_wrong nothing_wrong question)
             (λ f. true≢false (sym ((facts_exact G line proper A i j).1 f) ∙ fact))
             refl
             (work words depths lent)
@@ -190,10 +185,10 @@ module _ (g line : List ℕ) (read : read_of g ≡ Accepted (sections_given g)) 
       let is = same_by_lem derivation.branch_numbers branch_one branches (records.forest G line) p.0 in
       λ words depths rows lent room.
       let fits : length (records.forest G line) ≤ length rows = rw is at room in forest_only (
-        forest-answer.Records (length branches),
+        Ok (length branches),
         sym (told_is told _ p.1),
         forest-outcome.answered
-            (passed words depths lent Nothing check.Passed check.Passed refl)
+            (passed words depths lent Nothing nothing_wrong nothing_wrong refl)
             (forest_is proper)
             fits
             (ap (λ (l : List derivation.BranchValue). answered (length l ∷ [])) is)

@@ -1,4 +1,6 @@
 -- The ten starred examples: every entry of the table holds.
+use Rattle.std.proofs.Common.{Err, Ok, Result}
+use Rattle.refusals.specs.declared.Refusal.{Refusal}
 use Prim.Native.Nat.{ℕ}
 use mathlib.Core.Path.{◌≡◌, refl, sym, ◌∙◌}
 use mathlib.Core.Bool.{true, ◌&&◌, false≢true}
@@ -37,8 +39,6 @@ use Rattle.grammar.specs.Repeats.{same_symbols, same_rule, is_repeated}
 use Rattle.grammar.specs.Reading.{each_from, rule_from, rules_from, flags_section, rules_section, sections_of, read_of}
 use Rattle.grammar.specs.Value.{standing, rules_at, grammar_of}
 use Rattle.grammar.specs.declared.reading.Sections.{Sections}
-use Rattle.grammar.specs.declared.reading.Reading.{Reading}
-use Rattle.grammar.specs.declared.reading.Reading.TheVariants.{Accepted, Refused}
 use Rattle.grammar.specs.Given.{sections_given, grammar_given}
 use Rattle.grammar.proofs.Encoded.{accepted_proper}
 use Rattle.lines.specs.Lines.{text, spaced, line_of}
@@ -62,16 +62,16 @@ question_holds : (g line : List ℕ) (question : Question) (told : Told) (work :
 unfolding read_test filled_test
 question_holds g line question told work t = go (read_of g) refl t
   where
-    accepted : {s : Sections} → read_of g ≡ Accepted s → (work : Work) → filled_test g line question told work ≡ true → OutcomeIs g line question told work
+    accepted : {s : Sections} → read_of g ≡ Ok s → (work : Work) → filled_test g line question told work ≡ true → OutcomeIs g line question told work
     accepted read as_before ok = absurd (false≢true ok)
     accepted read (holding facts) ok =
         let p = and_parts (passes (line_check (sections_given g).classes line)) (work_test g line facts && answer_test g line facts question told) ok in
         let q = and_parts (work_test g line facts) (answer_test g line facts question told) p.1 in
         answer_holds g line (rw read) (passes_is _ p.0) facts q.0 question told q.1
 
-    go : (r : Reading) → read_of g ≡ r → read_test g line question told work r ≡ true → OutcomeIs g line question told work
-    go (Accepted s) read ok = accepted read work ok
-    go (Refused refusal) read ok = turned_holds g line refusal read question told work ok
+    go : (r : Result Sections Refusal) → read_of g ≡ r → read_test g line question told work r ≡ true → OutcomeIs g line question told work
+    go (Ok s) read ok = accepted read work ok
+    go (Err refusal) read ok = turned_holds g line refusal read question told work ok
 
 -- a grammar without rules has no fact
 without_rules : {G : Grammar} {line : List ℕ} {A i j : ℕ} → length G.rules ≡ 0 → Fact G line A i j → ⊥
@@ -82,9 +82,9 @@ none_holds : (g : List ℕ) → no_facts_test g (read_of g) ≡ true → Holds (
 unfolding no_facts_test
 none_holds g t = go (read_of g) refl t
   where
-    go : (r : Reading) → read_of g ≡ r → no_facts_test g r ≡ true → Holds (no_facts g)
-    go (Accepted s) read ok = (rw read, λ line A i j. without_rules (eqb-true (length (grammar_given g).rules) 0 ok))
-    go (Refused refusal) read ok = absurd (false≢true ok)
+    go : (r : Result Sections Refusal) → read_of g ≡ r → no_facts_test g r ≡ true → Holds (no_facts g)
+    go (Ok s) read ok = (rw read, λ line A i j. without_rules (eqb-true (length (grammar_given g).rules) 0 ok))
+    go (Err refusal) read ok = absurd (false≢true ok)
 
 -- a number kept that is found is the depth
 found_depth : {G : Grammar} {line : List ℕ} {A i j d : ℕ} → DepthIs G line A i j d → is_found d ≡ true → Depth G line A i j d
@@ -97,15 +97,15 @@ bound_holds : (g line : List ℕ) (fact : Graded) → bound_test g line fact (re
 unfolding bound_test
 bound_holds g line fact t = go (read_of g) refl t
   where
-    go : (r : Reading) → read_of g ≡ r → bound_test g line fact r ≡ true → Holds (meets_bound g line fact)
-    go (Accepted s) read ok =
+    go : (r : Result Sections Refusal) → read_of g ≡ r → bound_test g line fact r ≡ true → Holds (meets_bound g line fact)
+    go (Ok s) read ok =
         let computed = depth_of (grammar_given g) line fact.category fact.start fact.end in
         let most = depth_bound (grammar_given g) fact.start fact.end in
         let p = and_parts (is_found fact.depth) (eqb computed fact.depth && eqb fact.depth most) ok in
         let q = and_parts (eqb computed fact.depth) (eqb fact.depth most) p.1 in
         let is = depth_of_is (grammar_given g) line (accepted_proper g (sections_given g) (rw read)) fact.category fact.start fact.end in
         (found_depth (rw (eqb-true computed fact.depth q.0) at is) p.0, eqb-true fact.depth most q.1)
-    go (Refused refusal) read ok = absurd (false≢true ok)
+    go (Err refusal) read ok = absurd (false≢true ok)
 
 -- a passing entry holds
 pub test_holds : (e : Entry) → test e ≡ true → Holds e

@@ -1,4 +1,6 @@
 -- The test of an example, computed: what is told, the work memory, and what is written, against the definitions.
+use Rattle.std.proofs.Common.{Err, Ok, Result}
+use Rattle.refusals.specs.Check.{nothing_wrong}
 use Prim.Native.Nat.{ℕ, zero, suc, ◌+◌, ◌*◌, ◌^◌}
 use mathlib.Core.Bool.{Bool, true, false, ◌&&◌, cond}
 use mathlib.Core.List.{List, [], ◌∷◌, map, flatten}
@@ -6,8 +8,7 @@ use lib.ListN.{length, get_or}
 use lib.Dec.{eqb, ltb}
 use Rattle.refusals.specs.declared.Refusal.{Refusal}
 use Rattle.refusals.specs.declared.Refusal.TheVariants.{TreeOfNoFact}
-use Rattle.refusals.specs.declared.Check.{Check}
-use Rattle.refusals.specs.declared.Check.TheVariants as check
+use Rattle.refusals.specs.Check.{Check}
 use Rattle.refusals.specs.Row.{row_of}
 use Rattle.refusals.specs.Told.{Told, answered, refused}
 use Rattle.positions.specs.Member.{digit}
@@ -26,14 +27,13 @@ use Rattle.derivation.specs.computed.Shown.{shown}
 use Rattle.derivation.specs.computed.Forest as records
 use Rattle.checks.specs.Line.{line_check}
 use Rattle.checks.specs.Question.{start_check, span_check}
-use Rattle.grammar.specs.declared.reading.Reading.{Reading}
-use Rattle.grammar.specs.declared.reading.Reading.TheVariants.{Accepted, Refused}
 use Rattle.grammar.specs.Reading.{read_of}
 use Rattle.grammar.specs.Given.{sections_given, grammar_given}
 use Rattle.tree.specs.Bytes.{node_bytes}
 use Rattle.lines.specs.Lines.{text, line_of}
 use Rattle.report.proofs.Examples.{document_job, document_output}
 use Rattle.examples.specs.Entry.{Graded, Question, chart, ends, marks, tree, forest, Work, as_before, holding, Entry, outcome, no_facts, meets_bound, prints}
+use Rattle.grammar.specs.declared.reading.Sections.{Sections}
 use Rattle.examples.specs.Memory.{word_at, number_at}
 
 -- every number below n passes
@@ -62,8 +62,8 @@ same_told (refused row) (answered ys) = false
 same_told (refused row) (refused other) = eqb row.number other.number && eqb row.place other.place
 
 unfoldable pub passes : Check → Bool
-passes check.Passed = true
-passes (check.Refused refusal) = false
+passes (Ok u) = true
+passes (Err refusal) = false
 
 -- nothing is written
 unfoldable pub writes_nothing : Question → Bool
@@ -121,22 +121,22 @@ module _ (g line : List ℕ) where
   turned_test question told as_before refusal = writes_nothing question && same_told told (refused (row_of refusal))
   turned_test question told (holding facts) refusal = false
 
-  unfoldable pub read_test : Question → Told → Work → Reading → Bool
-  read_test question told work (Accepted s) = filled_test question told work
-  read_test question told work (Refused refusal) = turned_test question told work refusal
+  unfoldable pub read_test : Question → Told → Work → Result Sections Refusal → Bool
+  read_test question told work (Ok s) = filled_test question told work
+  read_test question told work (Err refusal) = turned_test question told work refusal
 
 -- an accepted grammar without rules
-unfoldable pub no_facts_test : List ℕ → Reading → Bool
-no_facts_test g (Accepted s) = eqb (length (grammar_given g).rules) 0
-no_facts_test g (Refused refusal) = false
+unfoldable pub no_facts_test : List ℕ → Result Sections Refusal → Bool
+no_facts_test g (Ok s) = eqb (length (grammar_given g).rules) 0
+no_facts_test g (Err refusal) = false
 
 -- a fact's depth, which is not 0, is the computed one and the bound
-unfoldable pub bound_test : List ℕ → List ℕ → Graded → Reading → Bool
-bound_test g line fact (Accepted s) =
+unfoldable pub bound_test : List ℕ → List ℕ → Graded → Result Sections Refusal → Bool
+bound_test g line fact (Ok s) =
     is_found fact.depth
     && (eqb (depth_of (grammar_given g) line fact.category fact.start fact.end) fact.depth
     && eqb fact.depth (depth_bound (grammar_given g) fact.start fact.end))
-bound_test g line fact (Refused refusal) = false
+bound_test g line fact (Err refusal) = false
 
 -- of what is printed: it is what crate report shows of the document's job
 unfoldable pub test : Entry → Bool

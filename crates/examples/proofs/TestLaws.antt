@@ -1,4 +1,6 @@
 -- What a test that passes tells.
+use Rattle.std.proofs.Common.{Err, Ok}
+use Rattle.refusals.specs.Check.{nothing_wrong}
 use Prim.Native.Nat.{ℕ, zero, suc, ◌<◌}
 use mathlib.Core.Path.{◌≡◌, refl, ap, ap₂}
 use mathlib.Core.Bool.{Bool, true, false≢true}
@@ -7,8 +9,7 @@ use mathlib.Core.List.{List, [], ◌∷◌}
 use native.Mathlib.Nat.{eq-or-lt_of_le, le_of_suc-le-suc, not-suc-le-zero}
 use lib.Dec.{eqb}
 use borrow.Author.Tests.{eqb-true}
-use Rattle.refusals.specs.declared.Check.{Check}
-use Rattle.refusals.specs.declared.Check.TheVariants as check
+use Rattle.refusals.specs.Check.{Check}
 use Rattle.refusals.specs.Told.{Told, answered, refused}
 use Rattle.derivation.specs.Node.{NodeValue}
 use Rattle.derivation.specs.Branch.{BranchValue, branch_numbers}
@@ -57,7 +58,7 @@ told_is (refused row) (refused other) e =
     let p = and_parts (eqb row.number other.number) (eqb row.place other.place) e in
     ap₂ refused_by (eqb-true row.number other.number p.0) (eqb-true row.place other.place p.1)
 
-pub passes_is : (c : Check) → passes c ≡ true → c ≡ check.Passed
+pub passes_is : (c : Check) → passes c ≡ true → c ≡ nothing_wrong
 unfolding passes
-passes_is check.Passed e = refl
-passes_is (check.Refused refusal) e = absurd (false≢true e)
+passes_is (Ok u) e = refl
+passes_is (Err refusal) e = absurd (false≢true e)

@@ -1,7 +1,7 @@
 -- What an example claims; of a question, that on all lent memory of sufficient size, whatever it held, the one outcome is the one written out.
+use Rattle.refusals.specs.Check.{nothing_wrong}
 use Rattle.std.specs.Prelude.{ℕ, ◌≤◌, ◌≡◌, length}
 use mathlib.Core.List.{List, [], map, flatten}
-use Rattle.refusals.specs.declared.Check.TheVariants as check
 use Rattle.refusals.specs.Told.{Told}
 use Rattle.derivation.specs.Bound.{depth_bound}
 use Rattle.derivation.specs.Fact.{Fact}
@@ -56,7 +56,7 @@ OutcomeIs g line (forest branches) told work =
 
 abbrev pub Holds : Entry → Type 0
 Holds (outcome g line question told work) = OutcomeIs g line question told work
-Holds (no_facts g) = (grammar_check g ≡ check.Passed) × ((line : List ℕ) (A i j : ℕ) → Fact (grammar_given g) line A i j → ⊥)
+Holds (no_facts g) = (grammar_check g ≡ nothing_wrong) × ((line : List ℕ) (A i j : ℕ) → Fact (grammar_given g) line A i j → ⊥)
 Holds (meets_bound g line fact) =
     Depth (grammar_given g) line fact.category fact.start fact.end fact.depth
     × (fact.depth ≡ depth_bound (grammar_given g) fact.start fact.end)

@@ -1,21 +1,15 @@
 -- A row of memory whose first k entries are cleared.
 use Prim.Native.Nat.{ℕ, ◌+◌, ◌-◌, ◌≤◌, ◌<◌}
-use mathlib.Core.Path.{◌≡◌, refl, ap, ◌∙◌}
+use mathlib.Core.Path.{◌≡◌, ap, ◌∙◌}
 use mathlib.Core.List.{List, ◌++◌}
-use lib.ListN.{length, set, get_or, drop, replicate, length-set, length-replicate, get_or-replicate, length-append, length-drop, get_or-append}
+use lib.ListN.{length, get_or, take, drop, replicate, length-replicate, get_or-replicate, length-append, length-drop, get_or-append}
 use lib.Seq.{get_or-append-add, get_or-drop}
 use native.Mathlib.Omega.{arith}
-use borrow.Author.Fill.{fill_none, fill_more}
+use Rattle.std.proofs.lemmas.List.{length-take-le}
 
-pub record Cleared (k : ℕ) (old new : List ℕ) : Type 0 where
-  pub long : length new ≡ length old
-  pub same : new ≡ replicate k 0 ++ drop k old
-
-pub cleared_none : (old : List ℕ) → Cleared 0 old old
-cleared_none old = record { long = refl; same = fill_none old 0 }
-
-pub cleared_more : (k : ℕ) (old new : List ℕ) → k < length old → Cleared k old new → Cleared (k + 1) old (set new k 0)
-cleared_more k old new h c = record { long = length-set new k 0 ∙ c.long; same = ap (λ (x : List ℕ). set x k 0) c.same ∙ fill_more k 0 old h }
+-- the first k entries are filled with 0
+pub cleared_front : (k : ℕ) (old front : List ℕ) → k ≤ length old → front ≡ replicate (length (take k old)) 0 → front ++ drop k old ≡ replicate k 0 ++ drop k old
+cleared_front k old front l e = ap (λ (x : List ℕ). x ++ drop k old) (e ∙ ap (λ (n : ℕ). replicate n 0) (length-take-le k old l))
 
 -- the entries of a cleared row
 module _ (k : ℕ) (old : List ℕ) where

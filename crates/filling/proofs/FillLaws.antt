@@ -223,38 +223,23 @@ module _ (G : Grammar) (line : List ℕ) (changed : ℕ) (words depths words₀ 
   none_within : (A i j : ℕ) → Within G line 0 A i j → ⊥
   none_within A i j v = omega (arith, height_pos v.tree, v.low)
 
-  pub start_done : Done G line 0 changed words₀ depths₀ words₀ (replicate 2048 0) depths₀
-  start_done = record {
+  pub start_done : chart_size N (length line) ≤ length words → depths_size N (length line) ≤ length depths → Done G line 0 changed words depths words₀ (replicate 2048 0) depths₀
+  start_done room deep_room = record {
     holds = λ A i a l j. (
       λ m. absurd (none_member j (rw (clear _ (row_inside A (length G.categories) (length line + 1) i a (omega arith))) at m)),
       λ v. absurd (none_within A i j v),
     );
-    words_long = refl;
-    words_past = λ q l. refl;
+    words_long = ap length cleared ∙ cleared_long _ words room;
+    words_past = λ q l. ap (λ (m : List ℕ). get_or m q 0) cleared ∙ cleared_past _ words q (rw count at l);
     next_long = length-replicate {A = ℕ} 2048 0;
     same = λ q l. zeros_at 2048 q ∙ sym (clear q l);
     depth = λ A i j a l k.
         rw (deep_clear _ (row_inside _ (chart_size (length G.categories) (length line)) (length line + 1) j (row_inside A (length G.categories) (length line + 1) i a (omega arith)) (omega arith)))
         (not_yet (λ t. height_pos t));
-    depths_long = refl;
-    depths_past = λ q l. refl;
+    depths_long = ap length deep-cleared ∙ cleared_long _ depths deep_room;
+    depths_past = λ q l. ap (λ (m : List ℕ). get_or m q 0) deep-cleared ∙ cleared_past _ depths q (rw count at l);
     changes = start only;
     met = λ k e. absurd (omega arith);
-  }
-
-  -- memory that was cleared first and then filled is filled
-  pub filled_cleared : (words' depths' : List ℕ) {r : ℕ} → chart_size N (length line) ≤ length words → depths_size N (length line) ≤ length depths →
-      Filled G line words₀ depths₀ words' depths' r → Filled G line words depths words' depths' r
-  filled_cleared words' depths' room deep_room x = record {
-    work = record {
-      words_long = x.work.words_long ∙ ap length cleared ∙ cleared_long _ words room;
-      word = x.work.word;
-      words_past = λ q l. x.work.words_past q l ∙ ap (λ (m : List ℕ). get_or m q 0) cleared ∙ cleared_past _ words q (rw count at l);
-      depths_long = x.work.depths_long ∙ ap length deep-cleared ∙ cleared_long _ depths deep_room;
-      depth = x.work.depth;
-      depths_past = λ q l. x.work.depths_past q l ∙ ap (λ (m : List ℕ). get_or m q 0) deep-cleared ∙ cleared_past _ depths q (rw count at l);
-    };
-    most = x.most;
   }
 
 -- once a round adds nothing

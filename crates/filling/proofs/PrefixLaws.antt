@@ -110,9 +110,6 @@ pub record AppliedBelow (symbols words places : List ℕ) (base width : ℕ) (ol
   pub miss : (q : ℕ) → (q < base) ⊎ (base + k ≤ q) → get_or new q 0 ≡ get_or old q 0
 
 module _ {symbols words places : List ℕ} {base width : ℕ} {old : List ℕ} where
-  pub applied_none : AppliedBelow symbols words places base width old 0 old
-  applied_none = record { long = refl; hit = λ G line h chart i l. absurd (omega arith); miss = λ q h. refl }
-
   pub applied_more :
       (k ends : ℕ) (new : List ℕ) → base + k < length new → AppliedBelow symbols words places base width old k new → Reaches symbols words places width k ends →
       AppliedBelow symbols words places base width old (k + 1) (set new (base + k) (bit_or (get_or new (base + k) 0) ends))

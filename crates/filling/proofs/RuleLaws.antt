@@ -1,5 +1,5 @@
 -- Rules applied one after the other: what the rows of `next` have gained by the first k.
-use Prim.Native.Nat.{ℕ, ◌+◌, ◌*◌, ◌^◌, ◌≤◌, ◌<◌}
+use Prim.Native.Nat.{ℕ, ◌+◌, ◌*◌, ◌≤◌, ◌<◌}
 use mathlib.Core.Path.{◌≡◌, refl, sym, ◌∙◌, ap}
 use mathlib.Core.Logic.{◌↔◌, ◌⊎◌, inl, inr}
 use mathlib.Core.List.{List}
@@ -12,7 +12,6 @@ use Rattle.positions.specs.Member.{Member}
 use Rattle.derivation.specs.Grammar.{Rule, Grammar, IsRule}
 use Rattle.derivation.specs.inner.Within.{ChildrenWithin}
 use Rattle.grammar.specs.declared.reading.Sections.{Sections}
-use Rattle.grammar.specs.declared.reading.Reading.TheVariants.{Accepted}
 use Rattle.grammar.specs.Value.{Sectioned, standing, grammar_of, Found}
 use Rattle.grammar.specs.Limits.{RuleWithin}
 use Rattle.grammar.proofs.Encoded.{rule_count_lem, category_count_lem, sections_within}
@@ -128,10 +127,6 @@ module _ {G : Grammar} {masks : List ℕ} {changed : ℕ} {words places : List �
       first line h A i j (inl m) = inl m
       first line h A i j (inr b) = inr (b, omega (arith, b.is_rule.below))
 
--- bytes have one reading
-pub sections_one : (g : List ℕ) (s s' : Sections) → Sectioned g s → Sectioned g s' → s ≡ s'
-sections_one g s s' e e' = let both : Accepted s ≡ Accepted s' = sym e ∙ e' in cc
-
 -- rule p of read sections, where it stands
 module _ (g : List ℕ) (s : Sections) (read : Sectioned g s) (p at : ℕ) (f : Found g s p at) (l : p < s.rules) where
   pub rule_is : IsRule (grammar_of g s) p (standing g at).left (standing g at).right
@@ -144,10 +139,8 @@ module _ (g : List ℕ) (s : Sections) (read : Sectioned g s) (p at : ℕ) (f : 
   rule_left_few = omega (arith, rule_within.left, (sections_within g s read).categories)
 
   -- its symbols' rows are in the words of a chart
-  pub rule_room : (words places : List ℕ) (width : ℕ) → width ≤ 64 → s.categories * width ≤ length words → ((c : ℕ) → get_or places c 0 < 2 ^ 63) → Room (standing g at).right words places width
-  rule_room words places width narrow room small = record {
-    narrow = narrow;
-    small = small;
+  pub rule_room : (words : List ℕ) (width : ℕ) → s.categories * width ≤ length words → Room (standing g at).right words width
+  rule_room words width room = record {
     rows = λ d h k. le_trans (row_before_lem _ s.categories width (rw (category_count_lem g s read) at ((rule_within.symbols d h).category k))) room;
   }
 

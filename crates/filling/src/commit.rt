@@ -9,66 +9,54 @@ pub fn write_depths(depths: &mut [u16], base: usize, set: u64, depth: u16)
     requires { (j : ℕ) → Member set j → base + j < length depths.old }
     ensures { Deepened base set depth depths.old depths.new }
 {
-    let mut left = set;
-    while left != 0 {
-        let j = positions::first(left) as usize;
+    for j in positions::members_of(set) {
         depths[base + j] = depth;
-        left = left & (left - 1);
     }
 }
 
-// The rows from `from` up to `to`; whether any has something new.
-pub fn commit_rows(
-    words: &mut [u64],
-    next: &[u64; 2048],
-    depths: &mut [u16],
-    from: usize,
-    to: usize,
-    width: usize,
-    depth: u16,
-) -> bool
-    requires { Ready to width words.old next.now depths.old × (to ≤ 2048) }
-    ensures { RowsCommitted from to width depth
-        words.old next.now depths.old
-        words.new depths.new result }
-{
-    let mut gained = false;
-    let mut q = from;
-    while q < to {
-        let old = words[q];
-        let new = next[q];
-        if new != old {
-            write_depths(depths, q * width, new ^ old, depth);
-            words[q] = new;
-            gained = true;
-        }
-        q += 1;
-    }
-    gained
+// What a round ends with: the rows that it has made, how many starts a category has, and the round's number.
+#[derive(Clone, Copy)]
+pub struct Round<'a> {
+    pub next: &'a [u64; 2048],
+    pub width: usize,
+    pub depth: u16,
 }
 
-// The rows of all categories; which of them have something new.
-pub fn commit(
-    words: &mut [u64],
-    next: &[u64; 2048],
-    depths: &mut [u16],
-    categories: usize,
-    width: usize,
-    depth: u16,
-) -> u64
-    requires { Ready (categories * width) width words.old next.now depths.old × (categories ≤ 32) × (width ≤ 64) }
-    ensures { AllCommitted categories width depth
-        words.old next.now depths.old
-        words.new depths.new result }
-{
-    let mut changed = 0u64;
-    let mut a = 0;
-    while a < categories {
-        let from = a * width;
-        if commit_rows(words, next, depths, from, from + width, width, depth) {
-            changed = positions::insert(changed, a);
+impl Round<'_> {
+    // The rows from `from` up to `to`; whether any has something new.
+    fn commit_rows(&self, words: &mut [u64], depths: &mut [u16], from: usize, to: usize) -> bool
+        requires { Ready to self.now.width words.old self.now.next.now depths.old × (to ≤ 2048) }
+        ensures { RowsCommitted from to self.now.width self.now.depth
+            words.old self.now.next.now depths.old
+            words.new depths.new result }
+    {
+        let mut gained = false;
+        for q in from..to {
+            let old = words[q];
+            let new = self.next[q];
+            if new != old {
+                write_depths(depths, q * self.width, new ^ old, self.depth);
+                words[q] = new;
+                gained = true;
+            }
         }
-        a += 1;
+        gained
     }
-    changed
+
+    // The rows of all categories; which of them have something new.
+    pub fn commit(&self, words: &mut [u64], depths: &mut [u16], categories: usize) -> u64
+        requires { Ready (categories * self.now.width) self.now.width words.old self.now.next.now depths.old × (categories ≤ 32) × (self.now.width ≤ 64) }
+        ensures { AllCommitted categories self.now.width self.now.depth
+            words.old self.now.next.now depths.old
+            words.new depths.new result }
+    {
+        let mut changed = 0u64;
+        for a in 0..categories {
+            let from = a * self.width;
+            if self.commit_rows(words, depths, from, from + self.width) {
+                changed = positions::insert(changed, a);
+            }
+        }
+        changed
+    }
 }

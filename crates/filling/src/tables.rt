@@ -1,10 +1,13 @@
-// What is worked out once before the first round: where the line has each class, and the categories on each rule's right side.
-ghost use Rattle.std.specs.Prelude.{ℕ, ◌<◌, length, get_or};
+// What is worked out once before the first round: where the line has each class, and where each rule stands with the categories on its right side.
+ghost use Rattle.std.specs.Prelude.{◌≡◌, ℕ, ◌<◌, length, get_or, map};
 ghost use Rattle.checks.specs.Line.{IsLine};
 ghost use Rattle.grammar.specs.Value.{Sectioned, grammar_of};
 ghost use Rattle.grammar.specs.inner.Starts.{Starts};
 ghost use Rattle.filling.specs.inner.Places.{Places};
 ghost use Rattle.filling.specs.inner.Mask.{MaskOf, Masks};
+
+use grammar::reading::Sections;
+use grammar::rules::{rule_after, rule_symbols};
 
 // The positions of the tokens of each class.
 pub fn class_places(line: &[u8]) -> [u64; 128]
@@ -12,48 +15,71 @@ pub fn class_places(line: &[u8]) -> [u64; 128]
     ensures { Places line.now result }
 {
     let mut places = [0u64; 128];
-    let mut m = 0;
-    while m < line.len() {
-        let class = line[m] as usize;
+    for (m, token) in line.iter().enumerate() {
+        let class = *token as usize;
         places[class] = positions::insert(places[class], m);
-        m += 1;
     }
     places
 }
 
-// The categories among the symbols, and 32 where there are none.
+// What stands in the mask of a rule without categories; before the first round it is all that has changed.
+pub const NO_CATEGORY: usize = 32;
+
+// The categories among the symbols, and NO_CATEGORY where there are none.
 pub fn mask_of(symbols: &[u8]) -> u64
     requires { (d : ℕ) → d < length symbols.now → get_or symbols.now d 0 < 160 }
     ensures { MaskOf symbols.now result }
 {
     let mut mask = 0u64;
-    let mut d = 0;
-    while d < symbols.len() {
-        let symbol = symbols[d] as usize;
+    for x in symbols {
+        let symbol = *x as usize;
         if 128 <= symbol {
             mask = positions::insert(mask, symbol - 128);
         }
-        d += 1;
     }
     if mask == 0 {
-        positions::insert(0, 32)
+        positions::insert(0, NO_CATEGORY)
     } else {
         mask
     }
 }
 
-// The mask of each rule; 0 past the last rule.
-pub fn rule_masks(g: &[u8], s: grammar::reading::Sections, starts: &[usize; 128]) -> [u64; 128]
-    requires { Sectioned g.now s × Starts g.now s starts.now }
-    ensures { Masks (grammar_of g.now s) result }
-{
-    let rules = s.rules;
-    let mut masks = [0u64; 128];
-    let mut p = 0;
-    while p < rules {
-        let at = starts[p];
-        masks[p] = mask_of(grammar::rules::rule_symbols(g, at));
-        p += 1;
+// Where a rule stands in the grammar's bytes, and its mask.
+#[derive(Clone, Copy)]
+pub struct MaskedRule {
+    pub at: usize,
+    pub mask: u64,
+}
+
+// A grammar's rules by their numbers, with its bytes and sections.
+#[derive(Drop)]
+pub struct Rules<'a> {
+    pub bytes: &'a [u8],
+    pub sections: Sections,
+    pub table: [MaskedRule; 128],
+    ghost sectioned: { Sectioned bytes.now sections },
+    ghost placed: { Starts bytes.now sections (map (λ r. r.at) table) },
+}
+
+impl<'a> Rules<'a> {
+    // The rules of read sections, in one walk; 0 for place and mask past the last rule.
+    pub fn new(bytes: &'a [u8], sections: Sections) -> Rules<'a>
+        requires { Sectioned bytes.now sections }
+        ensures bytes { result.bytes.now ≡ bytes.entry.now }
+        ensures sections { result.sections ≡ sections }
+        ensures masks { Masks (grammar_of bytes.entry.now sections) (map (λ r. r.mask) result.table) }
+    {
+        let mut table = [MaskedRule { at: 0, mask: 0 }; 128];
+        let mut at = sections.first;
+        for rule in &mut table[..sections.rules] {
+            let mask = mask_of(rule_symbols(bytes, at));
+            *rule = MaskedRule { at, mask };
+            at = rule_after(bytes, at);
+        }
+        Rules {
+            bytes,
+            sections,
+            table,
+        }
     }
-    masks
 }

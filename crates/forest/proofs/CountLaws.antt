@@ -16,6 +16,7 @@ use Rattle.positions.specs.Count.{count_below}
 use Rattle.positions.proofs.Members.{member?, no_digit, none_member}
 use Rattle.positions.proofs.Taking.{Taken}
 use Rattle.derivation.specs.Grammar.{Grammar, Proper, rule_at}
+use Rattle.grammar.specs.Given.{grammar_given}
 use Rattle.derivation.specs.Tree.{Child, Children}
 use Rattle.derivation.specs.computed.Round.{child, children}
 use Rattle.derivation.specs.computed.Facts.{facts}
@@ -27,7 +28,7 @@ use Rattle.derivation.proofs.Totals.{total_none, total_le, total_past, total_sam
 use Rattle.derivation.proofs.Facts.{facts_exact, length_gathered, length_kept}
 use Rattle.derivation.proofs.Forest.{child_exact, children_exact}
 use Rattle.chart.proofs.CountLaws.{count_total, digit_test}
-use Rattle.forest.specs.inner.Rest.{branch_at}
+use Rattle.forest.specs.inner.Parts.{branch_at}
 use Rattle.forest.specs.inner.Count.{derives, middle_count, start_count, place_count, rule_count}
 
 -- a total's first number apart
@@ -146,7 +147,7 @@ module _ (G : Grammar) (line : List ℕ) (p : ℕ) where
       let e : suc d - 1 ≡ d = omega arith in
       rw (e, lt-ltb p (length G.rules) l, le-leb 1 (suc d) (suc-le-suc zero-le), le-leb (suc d) (length (rule_at G p).right) h)
 
-  branch_zero : (i m j : ℕ) → is_branch G line (facts G line) (branch_at p 0 i m j) ≡ false
+  pub branch_zero : (i m j : ℕ) → is_branch G line (facts G line) (branch_at p 0 i m j) ≡ false
   unfolding is_branch
   branch_zero i m j = go (ltb p (length G.rules))
     where
@@ -170,3 +171,7 @@ unfolding forest passing
 forest_counted G line =
     length_gathered _ _ (λ p. length_gathered _ _ (λ d. length_gathered _ _ (λ i. length_gathered _ _ (λ m. length_gathered _ _ (λ j. length_kept _ _) _) _) _) _) _
     ∙ total_same _ _ (length G.rules) (λ p l. rule_total G line p l)
+
+-- the records of rule p
+abbrev pub numbered_records : List ℕ → List ℕ → ℕ → ℕ
+numbered_records g line p = rule_count (grammar_given g) line (rule_at (grammar_given g) p).right

@@ -23,8 +23,11 @@ use Rattle.grammar.proofs.Accepted.{accepted, whole, found}
 use Rattle.grammar.proofs.Encoded.{category_count_lem, rule_count_lem, sections_within, sections_proper}
 use Rattle.filling.proofs.PrefixLaws.{stays}
 use Rattle.filling.proofs.RowLaws.{row_inside}
-use Rattle.forest.specs.inner.Charted.{Charted, RuleStands, Standing}
+use Rattle.forest.specs.declared.place.Chart.{Chart}
+use Rattle.forest.specs.declared.place.Place.{Place}
+use Rattle.forest.specs.inner.Charted.{Charted, RuleStands}
 use Rattle.forest.specs.inner.Ends.{SymbolEnds, StepEnds, PrefixEnds}
+use Rattle.forest.proofs.ChartLaws.{opened}
 
 -- a class derives one token, and a category what its facts are
 child_class : {g : Grammar} {w : List ℕ} {c i j : ℕ} → c < 128 → Child g w c i j → (i < length w) × (get_or w i 0 ≡ c) × (j ≡ suc i)
@@ -33,7 +36,7 @@ child_class k b = within_token k (record { child = b; low = le_refl (child_heigh
 child_category : {g : Grammar} {w : List ℕ} {c i j : ℕ} → 128 ≤ c → Child g w c i j → Tree g w (c - 128) i j
 child_category k b = (within_category k (record { child = b; low = le_refl (child_height b) })).tree
 
-module _ (g line words : List ℕ) (chart : Charted g line words) where
+module _ {g line words : List ℕ} (chart : Charted g line words) where
   pub sectioned : Sectioned g (sections_given g)
   sectioned = (accepted g (sections_given g) chart.read).0
 
@@ -49,72 +52,95 @@ module _ (g line words : List ℕ) (chart : Charted g line words) where
   pub rule_found : (p at : ℕ) → p < (sections_given g).rules → at ≡ start_of g p (sections_given g).first → RuleStands g p at
   rule_found p at l e = record { below = l; found = rw e (found g (sections_given g) sectioned p l) }
 
-  module _ (at : ℕ) (here : Standing g at) where
-    pub rule_within : RuleWithin (grammar_given g) (standing g at)
-    rule_within = rw here.1.found.is ((sections_within g (sections_given g) sectioned).each here.0 (rw (rule_count_lem g (sections_given g) sectioned) here.1.below))
+-- what a place carries
+module _ (place : Place) where
+  abbrev g : List ℕ
+  g = place.chart.g.now
 
-    module _ (d m : ℕ) (l : d < length (standing g at).right) (inside : m ≤ length line) where
-      abbrev symbol : ℕ
-      symbol = get_or (standing g at).right d 0
+  abbrev line : List ℕ
+  line = place.chart.line.now
 
-      known : 128 ≤ symbol → symbol - 128 < length (grammar_given g).categories
-      known k = (rule_within.symbols d l).category k
+  abbrev words : List ℕ
+  words = place.chart.words.now
 
-      -- the row of a category's symbol is one of the chart's
-      pub in_chart : 128 ≤ symbol → (symbol - 128) * (length line + 1) + m < chart_size (sections_given g).categories (length line)
-      in_chart k = row_inside (symbol - 128) (sections_given g).categories (length line + 1) m (rw (category_count_lem g (sections_given g) sectioned) at (known k)) (omega arith)
+  abbrev right : List ℕ
+  right = (standing g place.at).right
 
-      pub in_words : 128 ≤ symbol → (symbol - 128) * (length line + 1) + m < length words
-      in_words k = lt_of_lt_of_le (in_chart k) chart.room
+  pub chart_of : Charted g line words
+  chart_of = opened place.chart.charted
 
-      pub in_few : 128 ≤ symbol → (symbol - 128) * (length line + 1) + m < 2048
-      in_few k = lt_of_lt_of_le (in_chart k) (chart_small (sections_given g).categories (length line) (whole g (sections_given g) sectioned).categories_high chart.is_line.short)
+  pub rule_of : RuleStands g place.rule place.at
+  rule_of = rule_found chart_of place.rule place.at place.below place.stands
 
-      pub ends_category : 128 ≤ symbol → SymbolEnds g line at d m (get_or words ((symbol - 128) * (length line + 1) + m) 0)
-      ends_category k j = let w = chart.word (symbol - 128) m (known k) inside j in (λ h. category k (w.0 h), λ b. w.1 (child_category k b))
+  rule_within : RuleWithin (grammar_given g) (standing g place.at)
+  rule_within = rw rule_of.found.is ((sections_within g (sections_given g) (sectioned chart_of)).each place.rule (rw (rules_all chart_of) place.below))
 
-      pub ends_past : symbol < 128 → length line ≤ m → SymbolEnds g line at d m 0
-      ends_past k h j = (λ z. absurd (none_member j z), λ b. absurd (omega (arith, (child_class k b).0)))
+  pub right_long : length right ≤ 8
+  right_long = rule_within.long
 
-      pub ends_other : symbol < 128 → (get_or line m 0 ≡ symbol → ⊥) → SymbolEnds g line at d m 0
-      ends_other k n j = (λ z. absurd (none_member j z), λ b. absurd (n (child_class k b).1))
+  abbrev symbol : ℕ
+  symbol = get_or right place.d 0
 
-      pub ends_class : symbol < 128 → m < length line → get_or line m 0 ≡ symbol → (r : ℕ) → With 0 (m + 1) r → SymbolEnds g line at d m r
-      ends_class k h e r w j = (
-        λ z. ⊎_elim (λ o. absurd (none_member j o)) (λ q. subst (λ (x : ℕ). Child (grammar_given g) line symbol m x) (sym (q ∙ add-one m)) (token k h e)) ((w j).0 z),
-        λ b. (w j).1 (inr ((child_class k b).2 ∙ sym (add-one m))),
-      )
+  known : 128 ≤ symbol → symbol - 128 < length (grammar_given g).categories
+  known k = (rule_within.symbols place.d place.inside).category k
 
-module _ (g line : List ℕ) (at i : ℕ) where
-  pub prefix_none : (r : ℕ) → i ≤ length line → With 0 i r → PrefixEnds g line at 0 i r
+  module _ (m : ℕ) (inside : m ≤ length line) where
+    -- the row of a category's symbol is one of the chart's
+    in_chart : 128 ≤ symbol → (symbol - 128) * (length line + 1) + m < chart_size (sections_given g).categories (length line)
+    in_chart k =
+        row_inside (symbol - 128) (sections_given g).categories (length line + 1) m (rw (category_count_lem g (sections_given g) (sectioned chart_of)) at (known k)) (omega arith)
+
+    pub in_words : 128 ≤ symbol → (symbol - 128) * (length line + 1) + m < length words
+    in_words k = lt_of_lt_of_le (in_chart k) chart_of.room
+
+    pub in_few : 128 ≤ symbol → (symbol - 128) * (length line + 1) + m < 2048
+    in_few k = lt_of_lt_of_le (in_chart k) (chart_small (sections_given g).categories (length line) (whole g (sections_given g) (sectioned chart_of)).categories_high chart_of.is_line.short)
+
+    pub ends_category : 128 ≤ symbol → SymbolEnds place.chart place.at place.d m (get_or words ((symbol - 128) * (length line + 1) + m) 0)
+    ends_category k j = let w = chart_of.word (symbol - 128) m (known k) inside j in (λ h. category k (w.0 h), λ b. w.1 (child_category k b))
+
+    pub ends_past : symbol < 128 → length line ≤ m → SymbolEnds place.chart place.at place.d m 0
+    ends_past k h j = (λ z. absurd (none_member j z), λ b. absurd (omega (arith, (child_class k b).0)))
+
+    pub ends_other : symbol < 128 → (get_or line m 0 ≡ symbol → ⊥) → SymbolEnds place.chart place.at place.d m 0
+    ends_other k n j = (λ z. absurd (none_member j z), λ b. absurd (n (child_class k b).1))
+
+    pub ends_class : symbol < 128 → m < length line → get_or line m 0 ≡ symbol → (r : ℕ) → With 0 (m + 1) r → SymbolEnds place.chart place.at place.d m r
+    ends_class k h e r w j = (
+      λ z. ⊎_elim (λ o. absurd (none_member j o)) (λ q. subst (λ (x : ℕ). Child (grammar_given g) line symbol m x) (sym (q ∙ add-one m)) (token k h e)) ((w j).0 z),
+      λ b. (w j).1 (inr ((child_class k b).2 ∙ sym (add-one m))),
+    )
+
+module _ (chart : Chart) (at i : ℕ) where
+  pub prefix_none : (r : ℕ) → i ≤ length chart.line.now → With 0 i r → PrefixEnds chart at 0 i r
   prefix_none r l w m = (
     λ z. ⊎_elim (λ o. absurd (none_member m o)) (λ e. rw e (stop l)) ((w m).0 z),
     λ b. (w m).1 (inr (stays b)),
   )
 
-  pub prefix_more : (d r r' : ℕ) → d < length (standing g at).right → PrefixEnds g line at d i r → StepEnds g line at d r r' → PrefixEnds g line at (d + 1) i r'
+  pub prefix_more : (d r r' : ℕ) → d < length (standing chart.g.now at).right → PrefixEnds chart at d i r → StepEnds chart at d r r' → PrefixEnds chart at (d + 1) i r'
   prefix_more d r r' l u w j = (
     λ z.
         let v = (w j).0 z in
         let bs = (u v.0).0 v.1 in
         let h = children_height bs + child_height v.2 in
         rw add-one
-        (prefix_join {h = h} (standing g at).right d l
+        (prefix_join {h = h} (standing chart.g.now at).right d l
         (record { children = bs; low = le-add_right (children_height bs) (child_height v.2) })
         (record { child = v.2; low = le-add_left (child_height v.2) (children_height bs) })).children,
     λ b.
-        let bs : Children (grammar_given g) line (take (suc d) (standing g at).right) i j = rw add-one at b in
-        let s = prefix_split {h = children_height bs} (standing g at).right d l (record { children = bs; low = le_refl (children_height bs) }) in
+        let bs : Children (grammar_given chart.g.now) chart.line.now (take (suc d) (standing chart.g.now at).right) i j = rw add-one at b in
+        let s = prefix_split {h = children_height bs} (standing chart.g.now at).right d l (record { children = bs; low = le_refl (children_height bs) }) in
         (w j).1 (s.0, (u s.0).1 s.1.children, s.2.child),
   )
 
-  pub prefix_inside : (d r : ℕ) → PrefixEnds g line at d i r → (m : ℕ) → Member r m → m ≤ length line
+  pub prefix_inside : (d r : ℕ) → PrefixEnds chart at d i r → (m : ℕ) → Member r m → m ≤ length chart.line.now
   prefix_inside d r u m z = (children_inside ((u m).0 z)).ends
 
   -- where the first d symbols have no end, more have none
-  pub prefix_empty : (d x : ℕ) → d + x ≤ length (standing g at).right → PrefixEnds g line at d i 0 → PrefixEnds g line at (d + x) i 0
+  pub prefix_empty : (d x : ℕ) → d + x ≤ length (standing chart.g.now at).right → PrefixEnds chart at d i 0 → PrefixEnds chart at (d + x) i 0
   prefix_empty d zero l u = rw add-zero u
   prefix_empty d (suc x) l u =
-      let step : StepEnds g line at (d + x) 0 0 = λ j. (λ z. absurd (none_member j z), λ v. absurd (none_member v.0 v.1)) in
+      let step : StepEnds chart at (d + x) 0 0 = λ j. (λ z. absurd (none_member j z), λ v. absurd (none_member v.0 v.1)) in
       let one : d + x + 1 ≡ d + suc x = omega arith in
-      subst (λ (k : ℕ). PrefixEnds g line at k i 0) one (prefix_more (d + x) 0 0 (omega arith) (prefix_empty d x (omega arith) u) step)
+      subst (λ (k : ℕ). PrefixEnds chart at k i 0) one (prefix_more (d + x) 0 0 (omega arith) (prefix_empty d x (omega arith) u) step)

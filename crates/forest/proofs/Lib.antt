@@ -1,12 +1,8 @@
+pub mod ChartLaws
 pub mod EndsLaws
-pub mod CountLaws
-pub mod ListLaws
-pub mod SeekLaws
-pub mod CursorLaws
 pub mod RuleLaws
-pub mod SearchLaws
-pub mod NextLaws
-pub mod PlanLaws
-pub mod WriteLaws
+pub mod CountLaws
+pub mod PartLaws
+pub mod RowLaws
 pub mod OutcomeLaws
 pub mod Unique

@@ -1,65 +1,60 @@
--- What is asked of the writing, and the outcome of the question, from the plan.
-use Prim.Native.Nat.{ℕ, ◌≤◌, ◌<◌}
-use mathlib.Core.Path.{◌≡◌, sym, ap, ap₂, ◌∙◌}
-use mathlib.Core.List.{List, [], ◌∷◌, ◌++◌, map}
-use native.Mathlib.Nat.{le_of_eq}
-use native.Mathlib.Omega.{arith}
-use lib.ListN.{length, take, drop, length-map}
-use lib.Seq.{take_all}
-use Rattle.refusals.specs.declared.Check.TheVariants as check
+-- The outcome of the question, from what the checks, the filling, the counting and the writing gave.
+use Rattle.std.proofs.Common.{map, ◌≡◌, ℕ, ◌<◌, ◌≤◌, List, [], ◌∷◌, ◌++◌, length, drop, Ok, Err, refl, sym, ap, ◌∙◌, arith}
+use Rattle.std.proofs.lemmas.List.{length-map}
+use Rattle.refusals.specs.declared.Refusal.{Refusal}
+use Rattle.refusals.specs.declared.Refusal.TheVariants.{ForestTooSmall}
+use Rattle.refusals.specs.Check.{nothing_wrong}
 use Rattle.refusals.specs.Order.{early}
-use Rattle.derivation.specs.Branch as derivation
+use Rattle.refusals.specs.Told as told
 use Rattle.derivation.specs.Branch.{ForestIs}
 use Rattle.derivation.specs.computed.Forest.{forest}
 use Rattle.derivation.proofs.Forest.{forest_is}
 use Rattle.checks.specs.declared.Asked.TheVariants.{Nothing}
-use Rattle.grammar.specs.Given.{grammar_given}
+use Rattle.grammar.specs.declared.reading.Sections.{Sections}
+use Rattle.grammar.specs.Value.{grammar_of}
+use Rattle.grammar.specs.Given.{sections_in, sections_given, grammar_given}
+use Rattle.filling.specs.Filled.{WorkFilled}
 use Rattle.chart.specs.Checks.{chart_checks}
-use Rattle.chart.proofs.CheckLaws.{early_proper}
+use Rattle.chart.proofs.CheckLaws.{Passes, line_is, grammar_is, memory_is, early_passed, early_proper}
 use Rattle.forest.specs.declared.Branch.{Branch}
-use Rattle.forest.specs.declared.Plan.{Plan}
-use Rattle.forest.specs.Told.{forest_told}
-use Rattle.forest.specs.inner.Planned.{Planned}
-use Rattle.forest.specs.inner.Planned as planned
-use Rattle.forest.specs.inner.Writing.{written_from, Writes}
 use Rattle.forest.specs.Record.{record_of}
-use Rattle.forest.specs.Outcome.{ForestOutcome}
-use Rattle.forest.specs.Outcome as outcome
+use Rattle.forest.specs.Outcome.{ForestOutcome, turned_down, no_room, answered}
+use Rattle.forest.specs.inner.Charted.{Charted}
+use Rattle.forest.specs.inner.Writing.{Front}
 
--- all of the records where they are counted right, be there any or none
-all_written : (l : List derivation.BranchValue) (n : ℕ) (from : List Branch) → n ≡ length l → (0 < length l → from ≡ map record_of l) → take n from ≡ map record_of l
-all_written [] n from e h = ap (λ (k : ℕ). take k from) e
-all_written (b ∷ l) n from e h =
-    let same = h (omega arith) in
-    ap (take n) same ∙ take_all n (map record_of (b ∷ l)) (le_of_eq (length-map (b ∷ l) record_of ∙ sym e))
+pub forest_turned : (g line words depths : List ℕ) (rows : List Branch) {refusal : Refusal} → early (chart_checks g line words depths) ≡ Err refusal → ForestOutcome g line words depths rows (Err refusal) words depths rows
+forest_turned g line words depths rows {refusal} e = turned_down {refusal = refusal} e refl refl refl refl
 
-module _ (g line words depths : List ℕ) (room : ℕ) (words' depths' : List ℕ) (plan : Plan) where
-  pub plan_fits : Planned g line words depths room words' depths' plan → plan.n ≤ room
-  plan_fits (planned.turned_down e z a w d) = omega arith
-  plan_fits (planned.no_room e l z a f) = omega arith
-  plan_fits (planned.ready e fits z a f h) = omega arith
+-- the checks have passed, and the memory is filled
+module _ {g line words depths : List ℕ} {s : Sections} (passes : Passes g line Nothing (length words) (length depths) s) {words' depths' : List ℕ} (filled : WorkFilled (grammar_of g s) line words depths words' depths') where
+  pub sections_are : s ≡ sections_given g
+  sections_are = sym (ap sections_in passes.read)
 
-  pub plan_writes : Planned g line words depths room words' depths' plan → 0 < plan.n → Writes g line words' plan.first plan.n
-  plan_writes (planned.turned_down e z a w d) some = absurd (omega arith)
-  plan_writes (planned.no_room e l z a f) some = absurd (omega arith)
-  plan_writes (planned.ready e fits z a f h) some =
-      let first = h (omega arith) in
-      record { charted = first.charted; stood = first.stood; enough = le_of_eq (z ∙ ap (λ (k : List derivation.BranchValue). length k) first.all) }
+  work : WorkFilled (grammar_given g) line words depths words' depths'
+  work = rw (grammar_is passes) filled
 
-module _ (g line words depths : List ℕ) (rows : List Branch) (words' depths' : List ℕ) (rows' : List Branch) (plan : Plan) where
-  -- no record is written
-  same_rows : rows' ≡ take plan.n (written_from g line plan.first) ++ drop plan.n rows → plan.n ≡ 0 → rows' ≡ rows
-  same_rows r z = r ∙ ap (λ (k : ℕ). take k (written_from g line plan.first) ++ drop k rows) z
+  pub charted : Charted g line words'
+  charted =
+      record {
+        read = passes.read ∙ ap (λ (s : Sections). Ok s) sections_are;
+        is_line = rw (← sections_are) (line_is passes);
+        room = rw (← sections_are) (omega (arith, (memory_is passes).0, filled.words_long));
+        word = work.word;
+      }
 
-  records_are : early (chart_checks g line words depths) ≡ check.Passed → ForestIs (grammar_given g) line (forest (grammar_given g) line)
-  records_are e = forest_is (early_proper g line Nothing words depths check.Passed check.Passed e)
+  passed : early (chart_checks g line words depths) ≡ nothing_wrong
+  passed = early_passed words depths nothing_wrong nothing_wrong passes
 
-  pub plan_outcome :
-      Planned g line words depths (length rows) words' depths' plan → rows' ≡ take plan.n (written_from g line plan.first) ++ drop plan.n rows →
-      ForestOutcome g line words depths rows plan.answer words' depths' rows'
-  plan_outcome (planned.turned_down {refusal = x} e z a w d) r = outcome.turned_down {refusal = x} e a w d (same_rows r z)
-  plan_outcome (planned.no_room e l z a f) r = outcome.no_room e (records_are e) l a f (same_rows r z)
-  plan_outcome (planned.ready e fits z a f h) r =
-      outcome.answered e (records_are e) fits (ap forest_told a) f
-      (r ∙ ap₂ (λ (s : List Branch) (k : ℕ). s ++ drop k rows)
-      (all_written (forest (grammar_given g) line) plan.n (written_from g line plan.first) z (λ some. ap (map record_of) (sym (h some).all))) z)
+  records_are : ForestIs (grammar_given g) line (forest (grammar_given g) line)
+  records_are = forest_is (early_proper g line Nothing words depths nothing_wrong nothing_wrong passed)
+
+  module _ (rows : List Branch) where
+    pub forest_crowded : {count : ℕ} → count ≡ length (forest (grammar_given g) line) → length rows < count → ForestOutcome g line words depths rows (Err (ForestTooSmall count)) words' depths' rows
+    forest_crowded {count} e l = no_room passed records_are (rw (← e) l) (ap (λ (n : ℕ). Err (ForestTooSmall n)) e) work refl
+
+    pub forest_written : {count written : ℕ} {rows' : List Branch} → count ≡ length (forest (grammar_given g) line) → count ≤ length rows → Front (map record_of (forest (grammar_given g) line)) rows rows' written →
+        ForestOutcome g line words depths rows (Ok written) words' depths' rows'
+    forest_written {count} {written} {rows'} e l front =
+        let long = length-map (forest (grammar_given g) line) record_of in
+        answered passed records_are (rw (← e) l) (ap (λ (n : ℕ). told.answered (n ∷ [])) (front.count ∙ long)) work
+        (front.laid ∙ ap (λ (n : ℕ). map record_of (forest (grammar_given g) line) ++ drop n rows) long)

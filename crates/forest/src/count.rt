@@ -1,76 +1,65 @@
 // The number of records, by counting ones.
-ghost use Rattle.std.specs.Prelude.{◌≡◌, ◌≤◌, ◌<◌, length};
+ghost use Rattle.std.specs.Prelude.{◌≡◌, ◌≤◌, length};
 ghost use Rattle.derivation.specs.computed.Forest.{forest};
-ghost use Rattle.grammar.specs.Value.{standing};
 ghost use Rattle.grammar.specs.Given.{sections_given, grammar_given};
-ghost use Rattle.forest.specs.inner.Charted.{Charted, Standing};
-ghost use Rattle.forest.specs.inner.Count.{start_count, place_count, rule_count};
+ghost use Rattle.forest.specs.inner.Charted.{RuleStands};
+ghost use Rattle.forest.specs.inner.Count.{start_records, place_records, rule_records};
 
-use super::ends::{prefix_ends, symbol_ends};
+use super::place::{Chart, Place};
 use grammar::reading::Sections;
 use grammar::rules::{rule_after, rule_length};
 
-// The records of a rule's symbol d, counted from 0, and a start.
-pub fn count_start(g: &[u8], at: usize, d: usize, line: &[u8], words: &[u64], start: usize) -> usize
-    requires { Charted g.now line.now words.now
-        × Standing g.now at
-        × (d < length (standing g.now at).right)
-        × (start ≤ length line.now) }
-    ensures { result ≡ start_count (grammar_given g.now) line.now (standing g.now at).right d start }
-{
-    let mut left = prefix_ends(g, at, d, line, words, start);
-    let mut records = 0;
-    while left != 0 {
-        let m = positions::first(left) as usize;
-        records += positions::count(symbol_ends(g, at, d, line, words, m)) as usize;
-        left = left & (left - 1);
+impl Place<'_> {
+    // The records of the place and a start.
+    fn count_start(&self, start: usize) -> usize
+        requires { start ≤ length self.now.chart.line.now }
+        ensures { result ≡ start_records self.now.chart self.now.at self.now.d start }
+    {
+        let mut records = 0;
+        for m in positions::members_of(self.prefix_ends(start)) {
+            records += positions::count(self.symbol_ends(m)) as usize;
+        }
+        records
     }
-    records
+
+    // The records of the place.
+    fn count(&self) -> usize
+        ensures { result ≡ place_records self.now.chart self.now.at self.now.d }
+    {
+        let mut records = 0;
+        for start in 0..=self.chart.line.len() {
+            records += self.count_start(start);
+        }
+        records
+    }
 }
 
-// The records of a rule's symbol d.
-pub fn count_place(g: &[u8], at: usize, d: usize, line: &[u8], words: &[u64]) -> usize
-    requires { Charted g.now line.now words.now × Standing g.now at × (d < length (standing g.now at).right) }
-    ensures { result ≡ place_count (grammar_given g.now) line.now (standing g.now at).right d }
-{
-    let width = line.len() + 1;
-    let mut records = 0;
-    let mut start = 0;
-    while start < width {
-        records += count_start(g, at, d, line, words, start);
-        start += 1;
+impl Chart<'_> {
+    // The records of the rule that stands at a position.
+    fn count_rule(&self, rule: usize, at: usize) -> usize
+        requires { RuleStands self.now.g.now rule at }
+        ensures { result ≡ rule_records self.now at }
+    {
+        let chart = *self;
+        let mut records = 0;
+        for d in 0..rule_length(self.g, at) {
+            let place = Place { chart, rule, at, d };
+            records += place.count();
+        }
+        records
     }
-    records
-}
 
-// The records of a rule.
-pub fn count_rule(g: &[u8], at: usize, line: &[u8], words: &[u64]) -> usize
-    requires { Charted g.now line.now words.now × Standing g.now at }
-    ensures { result ≡ rule_count (grammar_given g.now) line.now (standing g.now at).right }
-{
-    let places = rule_length(g, at);
-    let mut records = 0;
-    let mut d = 0;
-    while d < places {
-        records += count_place(g, at, d, line, words);
-        d += 1;
+    // All records of the line.
+    pub fn count_records(&self, s: Sections) -> usize
+        requires { s ≡ sections_given self.now.g.now }
+        ensures { result ≡ length (forest (grammar_given self.now.g.now) self.now.line.now) }
+    {
+        let mut at = s.first;
+        let mut records = 0;
+        for rule in 0..s.rules {
+            records += self.count_rule(rule, at);
+            at = rule_after(self.g, at);
+        }
+        records
     }
-    records
-}
-
-// All records of the line.
-pub fn count_records(g: &[u8], s: Sections, line: &[u8], words: &[u64]) -> usize
-    requires { Charted g.now line.now words.now × (s ≡ sections_given g.now) }
-    ensures { result ≡ length (forest (grammar_given g.now) line.now) }
-{
-    let rules = s.rules;
-    let mut at = s.first;
-    let mut records = 0;
-    let mut p = 0;
-    while p < rules {
-        records += count_rule(g, at, line, words);
-        at = rule_after(g, at);
-        p += 1;
-    }
-    records
 }

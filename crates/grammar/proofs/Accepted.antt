@@ -1,4 +1,5 @@
 -- What read sections have: each part inside the bytes and within its limits, and the rules one after the other up to the end.
+use Rattle.std.proofs.Common.{Err, Ok, Result}
 use Prim.Native.Nat.{ℕ, zero, suc, ◌+◌, ◌-◌, ◌≤◌, ◌<◌}
 use mathlib.Core.Path.{◌≡◌, refl, ap, sym, ◌∙◌}
 use mathlib.Core.Bool.{Bool, true, false, not, cond}
@@ -12,10 +13,6 @@ use Rattle.refusals.specs.declared.Refusal.{Refusal}
 use Rattle.refusals.specs.declared.Refusal.TheVariants.{BytesAfterRules}
 use Rattle.derivation.specs.Grammar.{Rule, rule}
 use Rattle.grammar.specs.declared.reading.Sections.{Sections}
-use Rattle.grammar.specs.declared.reading.Pass.{Pass}
-use Rattle.grammar.specs.declared.reading.Pass.TheVariants.{To, Stop}
-use Rattle.grammar.specs.declared.reading.Reading.{Reading}
-use Rattle.grammar.specs.declared.reading.Reading.TheVariants.{Accepted, Refused}
 use Rattle.grammar.specs.Repeats.{is_repeated}
 use Rattle.grammar.specs.Reading.{byte, then_read, each_from, is_flag, is_symbol, rule_from, rules_from, flags_section, rules_section, onward, sections_at, sections_of, nothing_after, read_of}
 use Rattle.grammar.specs.Value.{Sectioned, standing, after, rules_at, start_of, grammar_of, Stands, Found}
@@ -28,11 +25,11 @@ pub record Each (ok : ℕ → Bool) (g : List ℕ) (count at next : ℕ) : Type 
   pub inside : next ≤ length g
   pub good : (i : ℕ) → i < count → ok (byte g (at + i)) ≡ true
 
-to_inj : (a b : ℕ) → To a ≡ To b → a ≡ b
+to_inj : (a b : ℕ) → ◌≡◌ {A = Result ℕ Refusal} (Ok a) (Ok b) → a ≡ b
 to_inj a b e = cc
 
 module _ (ok : ℕ → Bool) (fault : ℕ → Refusal) (g : List ℕ) where
-  each_next : (count at next : ℕ) → each_from ok fault g (suc count) at ≡ To next → (at < length g) × (ok (byte g at) ≡ true) × (each_from ok fault g count (at + 1) ≡ To next)
+  each_next : (count at next : ℕ) → each_from ok fault g (suc count) at ≡ Ok next → (at < length g) × (ok (byte g at) ≡ true) × (each_from ok fault g count (at + 1) ≡ Ok next)
   unfolding each_from
   each_next count at next e =
       let m = must_to _ _ _ _ e in
@@ -43,7 +40,7 @@ module _ (ok : ℕ → Bool) (fault : ℕ → Refusal) (g : List ℕ) where
   each_good count at o r zero l = let z : at + 0 ≡ at = omega arith in rw z o
   each_good count at o r (suc i) l = let z : at + suc i ≡ at + 1 + i = omega arith in rw z (r i (omega arith))
 
-  pub each_to : (count at next : ℕ) → at ≤ length g → each_from ok fault g count at ≡ To next → Each ok g count at next
+  pub each_to : (count at next : ℕ) → at ≤ length g → each_from ok fault g count at ≡ Ok next → Each ok g count at next
   unfolding each_from
   each_to zero at next h e =
       let z : at ≡ next = to_inj at next e in
@@ -60,7 +57,7 @@ pub record RulePassed (g : List ℕ) (t n at : ℕ) : Type 0 where
   pub symbols : (d : ℕ) → d < byte g (at + 1) → is_symbol t n (byte g (at + 2 + d)) ≡ true
 
 module _ (g : List ℕ) (t n : ℕ) where
-  pub rule_to : (at next : ℕ) → rule_from g t n at ≡ To next → (next ≡ after g at) × RulePassed g t n at
+  pub rule_to : (at next : ℕ) → rule_from g t n at ≡ Ok next → (next ≡ after g at) × RulePassed g t n at
   unfolding rule_from
   rule_to at next e =
       let a = must_to (ltb at (length g)) _ _ next e in
@@ -71,24 +68,24 @@ module _ (g : List ℕ) (t n : ℕ) where
       let s = each_to (is_symbol t n) _ g (byte g (at + 1)) (at + 2) next (omega arith) d.1 in
       (s.past, record { stands = record { inside = omega (arith, s.past, s.inside); long = leb-true _ _ d.0 }; left = ltb-true _ _ b.0; symbols = s.good })
 
-  and_to : (p : Pass) (go : ℕ → Pass) (end : ℕ) → then_read p go ≡ To end → (next : ℕ) × (p ≡ To next) × (go next ≡ To end)
-  and_to (To at) go end e = (at, refl, e)
-  and_to (Stop refusal) go end e = absurd (never e)
+  and_to : (p : Result ℕ Refusal) (go : ℕ → Result ℕ Refusal) (end : ℕ) → then_read p go ≡ Ok end → (next : ℕ) × (p ≡ Ok next) × (go next ≡ Ok end)
+  and_to (Ok at) go end e = (at, refl, e)
+  and_to (Err refusal) go end e = absurd (never e)
     where
-      never : Stop refusal ≡ To end → ⊥
+      never : Err refusal ≡ Ok end → ⊥
       never h = let z : ◌≡◌ {A = ℕ} 0 1 = cc in omega arith
 
   -- rules that were passed over: the first of them, which is new, and the others
   pub rules_to :
-      (earlier : List Rule) (count at end : ℕ) → 0 < count → rules_from g t n earlier count at ≡ To end →
-      RulePassed g t n at × (is_repeated (standing g at) earlier ≡ false) × (rules_from g t n (earlier ++ (standing g at ∷ [])) (count - 1) (after g at) ≡ To end)
+      (earlier : List Rule) (count at end : ℕ) → 0 < count → rules_from g t n earlier count at ≡ Ok end →
+      RulePassed g t n at × (is_repeated (standing g at) earlier ≡ false) × (rules_from g t n (earlier ++ (standing g at ∷ [])) (count - 1) (after g at) ≡ Ok end)
   rules_to earlier count at end h e =
       let m = and_to (rule_from g t n at) _ end (sym (rules_step g t n earlier count at h) ∙ e) in
       let r = rule_to at m.0 m.1 in
       let u = must_to (not (is_repeated (standing g at) earlier)) _ _ end m.2 in
       (r.1, not-true _ u.0, rw r.0 at u.1)
 
-  pub rules_inside : (earlier : List Rule) (count at end : ℕ) → at ≤ length g → rules_from g t n earlier count at ≡ To end → end ≤ length g
+  pub rules_inside : (earlier : List Rule) (count at end : ℕ) → at ≤ length g → rules_from g t n earlier count at ≡ Ok end → end ≤ length g
   unfolding rules_from
   rules_inside earlier zero at end h e = let z : at ≡ end = to_inj at end e in omega arith
   rules_inside earlier (suc count) at end h e =
@@ -97,7 +94,7 @@ module _ (g : List ℕ) (t n : ℕ) where
       rules_inside (earlier ++ (standing g at ∷ [])) count (after g at) end (omega (arith, r.0.stands.inside)) (rw z at r.2)
 
   -- each of them, where it stands
-  pub rules_each : (earlier : List Rule) (count at end p : ℕ) → p < count → rules_from g t n earlier count at ≡ To end → RulePassed g t n (start_of g p at)
+  pub rules_each : (earlier : List Rule) (count at end p : ℕ) → p < count → rules_from g t n earlier count at ≡ Ok end → RulePassed g t n (start_of g p at)
   unfolding start_of
   rules_each earlier count at end zero h e = (rules_to earlier count at end (omega arith) e).0
   rules_each earlier count at end (suc p) h e =
@@ -105,7 +102,7 @@ module _ (g : List ℕ) (t n : ℕ) where
 
   -- and each is new
   pub rules_new :
-      (earlier : List Rule) (count at end p : ℕ) → p < count → rules_from g t n earlier count at ≡ To end → is_repeated (standing g (start_of g p at)) (earlier ++ rules_at g p at) ≡ false
+      (earlier : List Rule) (count at end p : ℕ) → p < count → rules_from g t n earlier count at ≡ Ok end → is_repeated (standing g (start_of g p at)) (earlier ++ rules_at g p at) ≡ false
   unfolding start_of rules_at
   rules_new earlier count at end zero h e = rw (append-nil earlier) (rules_to earlier count at end (omega arith) e).1
   rules_new earlier count at end (suc p) h e =
@@ -148,20 +145,20 @@ pub record Whole (g : List ℕ) (s : Sections) : Type 0 where
   pub inside : s.end ≤ length g
   pub class_flags : (i : ℕ) → i < s.classes → byte g (1 + i) ≤ 1
   pub category_flags : (i : ℕ) → i < s.categories → byte g (s.flags + i) ≤ 1
-  pub rules : rules_from g s.classes s.categories [] s.rules s.first ≡ To s.end
+  pub rules : rules_from g s.classes s.categories [] s.rules s.first ≡ Ok s.end
 
-onward_to : (p : Pass) (go : ℕ → Reading) (s : Sections) → onward p go ≡ Accepted s → (next : ℕ) × (p ≡ To next) × (go next ≡ Accepted s)
-onward_to (To at) go s e = (at, refl, e)
-onward_to (Stop refusal) go s e = absurd (never e)
+onward_to : (p : Result ℕ Refusal) (go : ℕ → Result Sections Refusal) (s : Sections) → onward p go ≡ Ok s → (next : ℕ) × (p ≡ Ok next) × (go next ≡ Ok s)
+onward_to (Ok at) go s e = (at, refl, e)
+onward_to (Err refusal) go s e = absurd (never e)
   where
-    never : Refused refusal ≡ Accepted s → ⊥
+    never : Err refusal ≡ Ok s → ⊥
     never h = let z : ◌≡◌ {A = ℕ} 0 1 = cc in omega arith
 
-accepted_inj : (s s' : Sections) → Accepted s ≡ Accepted s' → s ≡ s'
+accepted_inj : (s s' : Sections) → ◌≡◌ {A = Result Sections Refusal} (Ok s) (Ok s') → s ≡ s'
 accepted_inj s s' e = cc
 
 whole_of :
-    (g : List ℕ) (a b end : ℕ) → flags_section g 128 0 ≡ To a → flags_section g 32 a ≡ To b → rules_section g (byte g 0) (byte g a) b ≡ To end → Whole g (sections_at g a b end)
+    (g : List ℕ) (a b end : ℕ) → flags_section g 128 0 ≡ Ok a → flags_section g 32 a ≡ Ok b → rules_section g (byte g 0) (byte g a) b ≡ Ok end → Whole g (sections_at g a b end)
 whole_of g a b end first second third =
     let one = flags_section_to g 128 0 a first in
     let two = flags_section_to g 32 a b second in
@@ -188,7 +185,7 @@ whole_of g a b end first second third =
       rules = three.rules;
     }
 
-pub whole : (g : List ℕ) (s : Sections) → sections_of g ≡ Accepted s → Whole g s
+pub whole : (g : List ℕ) (s : Sections) → sections_of g ≡ Ok s → Whole g s
 unfolding sections_of
 whole g s e =
     let m = onward_to _ _ s e in
@@ -197,27 +194,27 @@ whole g s e =
     rw (accepted_inj _ s o.2) at (whole_of g m.0 n.0 o.0 m.1 n.1 o.1)
 
 -- accepted bytes are their three sections, to the end
-pub accepted : (g : List ℕ) (s : Sections) → read_of g ≡ Accepted s → (sections_of g ≡ Accepted s) × (s.end ≡ length g)
+pub accepted : (g : List ℕ) (s : Sections) → read_of g ≡ Ok s → (sections_of g ≡ Ok s) × (s.end ≡ length g)
 unfolding read_of
 accepted g s e = go (sections_of g) refl e
   where
-    last : (x : Sections) (past : Bool) → ltb x.end (length g) ≡ past → cond past (Refused (BytesAfterRules x.end)) (Accepted x) ≡ Accepted s → (x ≡ s) × (length g ≤ x.end)
+    last : (x : Sections) (past : Bool) → ltb x.end (length g) ≡ past → cond past (Err (BytesAfterRules x.end)) (Ok x) ≡ Ok s → (x ≡ s) × (length g ≤ x.end)
     last x true q h = absurd (never h)
       where
-        never : Refused (BytesAfterRules x.end) ≡ Accepted s → ⊥
+        never : Err (BytesAfterRules x.end) ≡ Ok s → ⊥
         never h = let z : ◌≡◌ {A = ℕ} 0 1 = cc in omega arith
     last x false q h = (accepted_inj x s h, ltb-false _ _ q)
 
-    go : (r : Reading) → sections_of g ≡ r → nothing_after g r ≡ Accepted s → (sections_of g ≡ Accepted s) × (s.end ≡ length g)
-    go (Accepted x) q h =
+    go : (r : Result Sections Refusal) → sections_of g ≡ r → nothing_after g r ≡ Ok s → (sections_of g ≡ Ok s) × (s.end ≡ length g)
+    go (Ok x) q h =
         let l = last x (ltb x.end (length g)) refl h in
-        let r : sections_of g ≡ Accepted s = q ∙ ap (λ (y : Sections). Accepted y) l.0 in
+        let r : sections_of g ≡ Ok s = q ∙ ap (λ (y : Sections). Ok y) l.0 in
         let u : s.end ≤ length g = (whole g s r).inside in
         let v : length g ≤ s.end = rw l.0 at l.1 in
         (r, omega arith)
-    go (Refused refusal) q h = absurd (never h)
+    go (Err refusal) q h = absurd (never h)
       where
-        never : Refused refusal ≡ Accepted s → ⊥
+        never : Err refusal ≡ Ok s → ⊥
         never h = let z : ◌≡◌ {A = ℕ} 0 1 = cc in omega arith
 
 module _ (g : List ℕ) (s : Sections) (e : Sectioned g s) where

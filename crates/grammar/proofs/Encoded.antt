@@ -1,4 +1,5 @@
 -- Bytes that were accepted: the encoding of the grammar that they stand for, which is within the limits and repeats no rule.
+use Rattle.std.proofs.Common.{Ok}
 use Prim.Native.Nat.{ℕ, zero, suc, ◌+◌, ◌-◌, ◌≤◌, ◌<◌}
 use mathlib.Core.Path.{◌≡◌, refl, ap, sym, ◌∙◌}
 use mathlib.Core.Bool.{true, false≢true}
@@ -10,8 +11,6 @@ use lib.Seq.{drop-cons, drop-drop, drop-length}
 use borrow.Author.Tests.{ltb-true, lt-ltb, le-ltb}
 use Rattle.derivation.specs.Grammar.{Rule, Grammar, Proper, rule, rule_at}
 use Rattle.grammar.specs.declared.reading.Sections.{Sections}
-use Rattle.grammar.specs.declared.reading.Pass.TheVariants.{To}
-use Rattle.grammar.specs.declared.reading.Reading.TheVariants.{Accepted}
 use Rattle.grammar.specs.Reading.{byte, is_symbol, rules_from, sections_of, read_of}
 use Rattle.grammar.specs.Value.{standing, after, rules_at, start_of, grammar_of, Stands}
 use Rattle.grammar.specs.Limits.{FlagsWithin, SymbolWithin, RuleWithin, WithinLimits}
@@ -45,7 +44,7 @@ module _ (g : List ℕ) where
       let next : drop (suc at) g ≡ length right ∷ (right ++ drop (after g at) g) = rw (← add-one at) (counted g k (at + 2) s.inside (at + 1) (omega arith) refl) in
       drop-cons g at 0 (omega arith) ∙ rw next
 
-  rules_encoded : (t n : ℕ) (earlier : List Rule) (count at : ℕ) → rules_from g t n earlier count at ≡ To (length g) → drop at g ≡ encode_rules (rules_at g count at)
+  rules_encoded : (t n : ℕ) (earlier : List Rule) (count at : ℕ) → rules_from g t n earlier count at ≡ Ok (length g) → drop at g ≡ encode_rules (rules_at g count at)
   unfolding rules_from rules_at encode_rules
   rules_encoded t n earlier zero at e = let z : at ≡ length g = cc in rw z (drop-length g)
   rules_encoded t n earlier (suc count) at e =
@@ -79,7 +78,7 @@ module _ (G : Grammar) (t n : ℕ) (classes : length G.classes ≡ t) (categorie
       }
 
 -- sections that were read: the counts of their grammar, and its limits
-module _ (b : List ℕ) (s : Sections) (read : sections_of b ≡ Accepted s) where
+module _ (b : List ℕ) (s : Sections) (read : sections_of b ≡ Ok s) where
   classes_inside : 1 + s.classes ≤ length b
   classes_inside = let w = whole b s read in omega (arith, w.first_is, w.first_inside)
 
@@ -140,7 +139,7 @@ module _ (b : List ℕ) (s : Sections) (read : sections_of b ≡ Accepted s) whe
       let w = whole b s read in
       let at : s.flags + s.categories ≡ s.classes + s.categories + 2 = omega (arith, w.flags_is) in
       let next : suc (s.classes + s.categories + 2) ≡ s.first = omega (arith, w.first_is) in
-      let rules : rules_from b s.classes s.categories [] s.rules s.first ≡ To (length b) = rw e at w.rules in
+      let rules : rules_from b s.classes s.categories [] s.rules s.first ≡ Ok (length b) = rw e at w.rules in
       rw (at, rules_length b s.rules s.first)
       (drop-cons b (s.classes + s.categories + 2) 0 (omega (arith, w.first_inside))
       ∙ rw (next, w.rule_count_lem, rules_encoded b s.classes s.categories [] s.rules s.first rules))
@@ -154,8 +153,8 @@ module _ (b : List ℕ) (s : Sections) (read : sections_of b ≡ Accepted s) whe
       ∙ rw (at, counted b s.categories s.flags categories_inside (s.classes + 1) (omega (arith, w.flags_is)) w.category_count_lem, rules_section_encoded e)
 
 -- accepted bytes are the encoding of the grammar that is read, it is within the limits and its rules all differ
-pub accepted_encodes : (b : List ℕ) (s : Sections) → read_of b ≡ Accepted s → WithinLimits (grammar_of b s) × Distinct (grammar_of b s) × (b ≡ encode (grammar_of b s))
+pub accepted_encodes : (b : List ℕ) (s : Sections) → read_of b ≡ Ok s → WithinLimits (grammar_of b s) × Distinct (grammar_of b s) × (b ≡ encode (grammar_of b s))
 accepted_encodes b s e = let a = accepted b s e in (sections_within b s a.0, sections_distinct b s a.0, sections_encode b s a.0 a.1)
 
-pub accepted_proper : (b : List ℕ) (s : Sections) → read_of b ≡ Accepted s → Proper (grammar_of b s)
+pub accepted_proper : (b : List ℕ) (s : Sections) → read_of b ≡ Ok s → Proper (grammar_of b s)
 accepted_proper b s e = sections_proper b s (accepted b s e).0

@@ -1,4 +1,5 @@
 -- Bytes are accepted exactly when they are the encoding of a grammar within the limits whose rules all differ, and that grammar is the value read.
+use Rattle.std.proofs.Common.{Err, Ok, Result}
 use Prim.Native.Nat.{ℕ, zero, suc, ◌+◌, ◌-◌, ◌≤◌, ◌<◌}
 use mathlib.Core.Path.{◌≡◌, refl, ap, sym, ◌∙◌}
 use mathlib.Core.Logic.{◌↔◌, ◌⊎◌, inl, inr}
@@ -16,9 +17,6 @@ use Rattle.refusals.specs.declared.Refusal.TheVariants.{RuleRepeated}
 use Rattle.refusals.specs.Told.{answered, refused}
 use Rattle.derivation.specs.Grammar.{Rule, Grammar, rule}
 use Rattle.grammar.specs.declared.reading.Sections.{Sections}
-use Rattle.grammar.specs.declared.reading.Pass.{Pass}
-use Rattle.grammar.specs.declared.reading.Pass.TheVariants.{To, Stop}
-use Rattle.grammar.specs.declared.reading.Reading.TheVariants.{Accepted, Refused}
 use Rattle.grammar.specs.Reading.{byte, must, each_from, is_flag, is_symbol, rule_from, rules_from, flags_section, rules_section, sections_at, sections_of, read_of}
 use Rattle.grammar.specs.Told.{reading_told}
 use Rattle.grammar.specs.Value.{standing, after, rules_at, grammar_of}
@@ -61,7 +59,7 @@ module _ (ok : ℕ → Bool) (fault : ℕ → Refusal) (g x rest : List ℕ) (at
   pub bytes_past : (count : ℕ) → length x ≤ count → each_from ok fault g count at ≡ each_from ok fault g (count - length x) (at + length x)
   bytes_past count l = each_past ok fault g (length x) count at l (bytes_inside g x rest at e h) (λ i k. rw (bytes_at g x rest at e i k) (good i k))
 
-  bytes_passed : each_from ok fault g (length x) at ≡ To (at + length x)
+  bytes_passed : each_from ok fault g (length x) at ≡ Ok (at + length x)
   bytes_passed = bytes_past (length x) (omega arith) ∙ each_none ok fault g (length x - length x) (at + length x) (omega arith)
 
 pub symbol_passed : (G : Grammar) (b : ℕ) → SymbolWithin G b → is_symbol (length G.classes) (length G.categories) b ≡ true
@@ -85,7 +83,7 @@ module _ (g x rest : List ℕ) (at : ℕ) (e : drop at g ≡ (length x ∷ x) ++
   flags_after : drop (at + 1 + length x) g ≡ rest
   flags_after = bytes_after g x rest (at + 1) flags_next
 
-  flags_section_passed : {most : ℕ} → FlagsSoFar most (length x) x → flags_section g most at ≡ To (at + 1 + length x)
+  flags_section_passed : {most : ℕ} → FlagsSoFar most (length x) x → flags_section g most at ≡ Ok (at + 1 + length x)
   unfolding flags_section
   flags_section_passed {most} w =
       let inside : at < length g = byte_inside g (x ++ rest) (length x) at e in
@@ -116,7 +114,7 @@ module _ (g rest : List ℕ) (r : Rule) (at : ℕ) (e : drop at g ≡ encode_rul
   rule_after : drop (after g at) g ≡ rest
   rule_after = rw length_is (bytes_after g r.right rest (at + 2) right_next)
 
-  pub rule_passed : (G : Grammar) → RuleWithin G r → rule_from g (length G.classes) (length G.categories) at ≡ To (after g at)
+  pub rule_passed : (G : Grammar) → RuleWithin G r → rule_from g (length G.classes) (length G.categories) at ≡ Ok (after g at)
   unfolding rule_from
   rule_passed G w =
       let l = length_inside in
@@ -166,7 +164,7 @@ module _ (g f rest : List ℕ) (e : g ≡ (length f ∷ f) ++ rest) where
   pub classes_next : drop (1 + length f) g ≡ rest
   classes_next = flags_after g f rest 0 e
 
-  pub classes_to : FlagsSoFar 128 (length f) f → flags_section g 128 0 ≡ To (1 + length f)
+  pub classes_to : FlagsSoFar 128 (length f) f → flags_section g 128 0 ≡ Ok (1 + length f)
   classes_to = flags_section_passed g f rest 0 e
 
 -- bytes that begin with all classes and categories
@@ -174,7 +172,7 @@ module _ (g f h rest : List ℕ) (e : g ≡ (length f ∷ f) ++ ((length h ∷ h
   pub categories_next : drop (1 + length f + 1 + length h) g ≡ rest
   categories_next = flags_after g h rest (1 + length f) (classes_next g f _ e)
 
-  pub categories_to : FlagsSoFar 32 (length h) h → flags_section g 32 (1 + length f) ≡ To (1 + length f + 1 + length h)
+  pub categories_to : FlagsSoFar 32 (length h) h → flags_section g 32 (1 + length f) ≡ Ok (1 + length f + 1 + length h)
   categories_to = flags_section_passed g h rest (1 + length f) (classes_next g f _ e)
 
   pub counts_are : (byte g 0 ≡ length f) × (byte g (1 + length f) ≡ length h)
@@ -222,7 +220,7 @@ module _ (G : Grammar) (P : ℕ) (g rest : List ℕ) (e : g ≡ bytes_so_far G P
       rules_section_is high ∙ rw rules_end at (rules_past G g [] G.rules rest P (rule_count_at G + 1) rules_next within.each (distinct_new G distinct) fits)
 
   -- the sections, by what the section of rules gives
-  sections_to : WithinLimits G → (end : ℕ) → rules_section g (length G.classes) (length G.categories) (rule_count_at G) ≡ To end → sections_of g ≡ Accepted (sections_at g (1 + length G.classes) (rule_count_at G) end)
+  sections_to : WithinLimits G → (end : ℕ) → rules_section g (length G.classes) (length G.categories) (rule_count_at G) ≡ Ok end → sections_of g ≡ Ok (sections_at g (1 + length G.classes) (rule_count_at G) end)
   sections_to within end rules =
       let c = counts_are g G.classes G.categories _ sections_are in
       sections_whole g
@@ -230,7 +228,7 @@ module _ (G : Grammar) (P : ℕ) (g rest : List ℕ) (e : g ≡ bytes_so_far G P
       (rule_count_at G) (categories_to g G.classes G.categories _ sections_are (categories_within within))
       end (rw (c.0, c.1) rules)
 
-  pub sections_stop : WithinLimits G → (refusal : Refusal) → rules_section g (length G.classes) (length G.categories) (rule_count_at G) ≡ Stop refusal → sections_of g ≡ Refused refusal
+  pub sections_stop : WithinLimits G → (refusal : Refusal) → rules_section g (length G.classes) (length G.categories) (rule_count_at G) ≡ Err refusal → sections_of g ≡ Err refusal
   sections_stop within refusal rules =
       let c = counts_are g G.classes G.categories _ sections_are in
       sections_third g
@@ -244,7 +242,7 @@ sections_encoded G g = sections_at g (1 + length G.classes) (rule_count_at G) (l
 
 -- bytes that begin with an encoding: its sections are read, and stand for the grammar
 module _ (G : Grammar) (g rest : List ℕ) (e : g ≡ encode G ++ rest) where
-  pub encoding_sections : WithinLimits G → Distinct G → sections_of g ≡ Accepted (sections_encoded G g)
+  pub encoding_sections : WithinLimits G → Distinct G → sections_of g ≡ Ok (sections_encoded G g)
   unfolding encode
   encoding_sections within distinct =
       let P = length G.rules in
@@ -263,28 +261,28 @@ module _ (G : Grammar) (g rest : List ℕ) (e : g ≡ encode G ++ rest) where
         rules_are g G.rules rest (rule_count_at G + 1) (rules_next G P g rest e),
       )
 
-encoding_read : (G : Grammar) → WithinLimits G → Distinct G → (b : List ℕ) → b ≡ encode G → (s : Sections) × (read_of b ≡ Accepted s) × (grammar_of b s ≡ G)
+encoding_read : (G : Grammar) → WithinLimits G → Distinct G → (b : List ℕ) → b ≡ encode G → (s : Sections) × (read_of b ≡ Ok s) × (grammar_of b s ≡ G)
 encoding_read G within distinct b encoded =
     let e : b ≡ encode G ++ [] = encoded ∙ sym (append-nil (encode G)) in
     let s = sections_encoded G b in
     (s, read_whole b s (encoding_sections G b [] e within distinct) (omega (arith, ap length encoded)), encoding_value G b [] e)
 
 -- the encoding of a grammar within the limits whose rules all differ is accepted, and that grammar is read
-pub encoding_accepted : (G : Grammar) → WithinLimits G → Distinct G → (s : Sections) × (read_of (encode G) ≡ Accepted s) × (grammar_of (encode G) s ≡ G)
+pub encoding_accepted : (G : Grammar) → WithinLimits G → Distinct G → (s : Sections) × (read_of (encode G) ≡ Ok s) × (grammar_of (encode G) s ≡ G)
 encoding_accepted G within distinct = encoding_read G within distinct (encode G) refl
 
 -- bytes are accepted exactly when they are the encoding of a grammar within the limits whose rules all differ
-pub accepted_iff : (b : List ℕ) → ((s : Sections) × (read_of b ≡ Accepted s)) ↔ ((G : Grammar) × WithinLimits G × Distinct G × (b ≡ encode G))
+pub accepted_iff : (b : List ℕ) → ((s : Sections) × (read_of b ≡ Ok s)) ↔ ((G : Grammar) × WithinLimits G × Distinct G × (b ≡ encode G))
 accepted_iff b = (
   λ r. let e = accepted_encodes b r.0 r.1 in (grammar_of b r.0, e.0, e.1, e.2),
   λ r. let e = encoding_read r.0 r.1 r.2 b r.3 in (e.0, e.1),
 )
 
 -- the grammar of accepted bytes is one, the value read
-pub value_read : (b : List ℕ) (s : Sections) (G : Grammar) → read_of b ≡ Accepted s → b ≡ encode G → WithinLimits G → Distinct G → grammar_of b s ≡ G
+pub value_read : (b : List ℕ) (s : Sections) (G : Grammar) → read_of b ≡ Ok s → b ≡ encode G → WithinLimits G → Distinct G → grammar_of b s ≡ G
 value_read b s G read encoded within distinct =
     let r = encoding_read G within distinct b encoded in
-    let both : Accepted s ≡ Accepted r.0 = sym read ∙ r.1 in
+    let both : Ok s ≡ Ok r.0 = sym read ∙ r.1 in
     let same : s ≡ r.0 = cc in
     rw same r.2
 
@@ -301,8 +299,8 @@ encoding_told G within distinct =
 -- rules that stand at a position, each within the limits: they are passed over, or one repeats an earlier one
 rules_or_repeat :
     (G : Grammar) (g : List ℕ) (earlier rs : List Rule) (rest : List ℕ) (at : ℕ) → drop at g ≡ encode_rules rs ++ rest → ((p : ℕ) → p < length rs → RuleWithin G (get_or rs p (rule 0 []))) →
-    (rules_from g (length G.classes) (length G.categories) earlier (length rs) at ≡ To (at + length (encode_rules rs)))
-    ⊎ ((place : ℕ) × (rules_from g (length G.classes) (length G.categories) earlier (length rs) at ≡ Stop (RuleRepeated place)))
+    (rules_from g (length G.classes) (length G.categories) earlier (length rs) at ≡ Ok (at + length (encode_rules rs)))
+    ⊎ ((place : ℕ) × (rules_from g (length G.classes) (length G.categories) earlier (length rs) at ≡ Err (RuleRepeated place)))
 unfolding encode_rules rules_from
 rules_or_repeat G g earlier [] rest at e each = let z : at + 0 ≡ at = omega arith in inl (rw z)
 rules_or_repeat G g earlier (r ∷ rs) rest at e each =
@@ -312,8 +310,8 @@ rules_or_repeat G g earlier (r ∷ rs) rest at e each =
     rw (rule_passed g more r at f G (each 0 (omega arith)), p)
     (go (is_repeated (standing g at) earlier) (rules_or_repeat G g (earlier ++ (standing g at ∷ [])) rs rest (after g at) (rule_after g more r at f) (λ i j. each (suc i) (omega arith))))
   where
-    go : (same : Bool) {later : Pass} {end : ℕ} → (later ≡ To end) ⊎ ((place : ℕ) × (later ≡ Stop (RuleRepeated place))) →
-        (must (not same) (RuleRepeated at) later ≡ To end) ⊎ ((place : ℕ) × (must (not same) (RuleRepeated at) later ≡ Stop (RuleRepeated place)))
+    go : (same : Bool) {later : (Result ℕ Refusal)} {end : ℕ} → (later ≡ Ok end) ⊎ ((place : ℕ) × (later ≡ Err (RuleRepeated place))) →
+        (must (not same) (RuleRepeated at) later ≡ Ok end) ⊎ ((place : ℕ) × (must (not same) (RuleRepeated at) later ≡ Err (RuleRepeated place)))
     go true x = inr (at, refl)
     go false x = x
 
@@ -331,8 +329,8 @@ encoding_refused G within row told = go (rules_or_repeat G g [] G.rules [] (rule
     e : g ≡ g ++ []
     e = sym (append-nil g)
 
-    go : (rules_from g (length G.classes) (length G.categories) [] P (rule_count_at G + 1) ≡ To (rule_count_at G + 1 + length (encode_rules G.rules)))
-        ⊎ ((place : ℕ) × (rules_from g (length G.classes) (length G.categories) [] P (rule_count_at G + 1) ≡ Stop (RuleRepeated place))) →
+    go : (rules_from g (length G.classes) (length G.categories) [] P (rule_count_at G + 1) ≡ Ok (rule_count_at G + 1 + length (encode_rules G.rules)))
+        ⊎ ((place : ℕ) × (rules_from g (length G.classes) (length G.categories) [] P (rule_count_at G + 1) ≡ Err (RuleRepeated place))) →
         row.number ≡ 14
     go (inl x) =
         let sections = sections_to G P g [] e within _ (rules_section_is G P g [] e within.rules ∙ x) in

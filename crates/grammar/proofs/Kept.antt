@@ -13,7 +13,7 @@ use Rattle.derivation.specs.Grammar.{Rule, rule}
 use Rattle.grammar.specs.Standing.{byte, standing}
 use Rattle.grammar.specs.Repeats.{is_repeated}
 use Rattle.grammar.specs.inner.Words.{word_of, chain_of}
-use Rattle.grammar.specs.inner.Chains.{OnChain, Falling}
+use Rattle.grammar.specs.inner.Chains.{OnChain, WordOnChain, Falling}
 use Rattle.grammar.proofs.RepeatLaws.{same_parts, repeated_of, repeats_one}
 use Rattle.grammar.proofs.Parts.{part_length, part_at, zeros}
 use Rattle.grammar.proofs.Accepted.{RulePassed}
@@ -86,7 +86,7 @@ module _ (rules : List Rule) (words before latest : List ℕ) (k : Kept rules wo
       go (no h) = omega arith
 
   -- a rule repeats one of them exactly when its word is on its chain
-  repeated_here : (x : Rule) → Plain x → ((q : ℕ) × OnChain before (get_or latest (chain_for x) 0) q × (get_or words q 0 ≡ word_of x.right)) ↔ (is_repeated x rules ≡ true)
+  repeated_here : (x : Rule) → Plain x → WordOnChain words before (get_or latest (chain_for x) 0) (word_of x.right) ↔ (is_repeated x rules ≡ true)
   repeated_here x h = (
     λ f.
         let o = k.only (chain_for x) f.0 f.1 in
@@ -98,7 +98,7 @@ module _ (rules : List Rule) (words before latest : List ℕ) (k : Kept rules wo
 
   pub kept_repeated :
       (x : Rule) → Plain x → (word chain : ℕ) → word_of x.right ≡ word → chain ≡ chain_for x →
-      ((q : ℕ) × OnChain before (get_or latest chain 0) q × (get_or words q 0 ≡ word)) ↔ (is_repeated x rules ≡ true)
+      WordOnChain words before (get_or latest chain 0) word ↔ (is_repeated x rules ≡ true)
   kept_repeated x h word chain w e = rw (sym w, e) (repeated_here x h)
 
   module _ (x : Rule) (h : Plain x) (room : length rules < 128) where

@@ -3,6 +3,7 @@ pub mod ReadingLaws
 pub mod WordLaws
 pub mod ChainLaws
 pub mod Kept
+pub mod Passing
 pub mod Parts
 pub mod Accepted
 pub mod Encoded

@@ -1,4 +1,5 @@
 -- Bytes are accepted, or refused with a number and a place, exactly as `specs/Beginning.antt` says.
+use Rattle.std.proofs.Common.{Ok}
 use Prim.Native.Nat.{ℕ}
 use mathlib.Core.Path.{◌≡◌, refl, ap, ◌∙◌}
 use mathlib.Core.Logic.{◌↔◌, ◌⊎◌, inl, inr}
@@ -10,7 +11,6 @@ use Rattle.refusals.specs.Row.{row_of}
 use Rattle.refusals.specs.Told.{refused}
 use Rattle.derivation.specs.Grammar.{Grammar}
 use Rattle.grammar.specs.declared.reading.Sections.{Sections}
-use Rattle.grammar.specs.declared.reading.Reading.TheVariants.{Accepted}
 use Rattle.grammar.specs.Reading.{read_of}
 use Rattle.grammar.specs.Told.{reading_told}
 use Rattle.grammar.specs.Limits.{WithinLimits}
@@ -25,7 +25,7 @@ whole_encodes : {g : List ℕ} → Beginning g no_more → (G : Grammar) × With
 whole_encodes (whole_grammar {G} within distinct) = (G, within, distinct, refl)
 
 -- bytes are accepted exactly when they are right to their end, and no more may follow
-pub accepted_whole : (g : List ℕ) → ((s : Sections) × (read_of g ≡ Accepted s)) ↔ Beginning g no_more
+pub accepted_whole : (g : List ℕ) → ((s : Sections) × (read_of g ≡ Ok s)) ↔ Beginning g no_more
 accepted_whole g = (λ a. let r = (accepted_iff g).0 a in rw r.3 (whole_grammar r.1 r.2), λ b. (accepted_iff g).1 (whole_encodes b))
 
 -- what is told of a beginning and a fault

@@ -1,4 +1,5 @@
 -- The reading stops where a beginning ends, if there the next byte is missing or not right, and at a whole rule that repeats one.
+use Rattle.std.proofs.Common.{Err, Result}
 use Prim.Native.Nat.{ℕ, suc, ◌+◌, ◌-◌, ◌≤◌, ◌<◌}
 use mathlib.Core.Path.{◌≡◌, refl, ap, sym, ◌∙◌}
 use mathlib.Core.Logic.{◌≢◌}
@@ -12,9 +13,6 @@ use borrow.Author.Tests.{ltb-true, leb-true, lt-ltb, le-ltb, le-leb}
 use Rattle.refusals.specs.declared.Refusal.{Refusal}
 use Rattle.refusals.specs.declared.Refusal.TheVariants.{GrammarEndsEarly, CountOutsideLimits, FlagAboveOne, NotInGrammar, RuleRepeated, BytesAfterRules}
 use Rattle.derivation.specs.Grammar.{Rule, Grammar, rule}
-use Rattle.grammar.specs.declared.reading.Pass.{Pass}
-use Rattle.grammar.specs.declared.reading.Pass.TheVariants.{Stop}
-use Rattle.grammar.specs.declared.reading.Reading.TheVariants.{Refused}
 use Rattle.grammar.specs.Reading.{byte, have, must, each_from, is_flag, is_symbol, flags_from, rule_from, flags_section, rules_section, read_of}
 use Rattle.grammar.specs.Limits.{RuleWithin}
 use Rattle.grammar.specs.Standing.{standing, after}
@@ -85,8 +83,8 @@ fault_refusal next at (y ∷ rest) = refusal_of next at
 
 -- one test of the reading
 byte_stopped :
-    (next : NextByte) (ok : ℕ → Bool) (go : Pass) → ((y : ℕ) → ok y ≡ true → RightByte next y) → (g : List ℕ) (at : ℕ) (rest : List ℕ) → drop at g ≡ rest → at ≤ length g → Fault next rest →
-    have g at (must (ok (byte g at)) (refusal_of next at) go) ≡ Stop (fault_refusal next at rest)
+    (next : NextByte) (ok : ℕ → Bool) (go : Result ℕ Refusal) → ((y : ℕ) → ok y ≡ true → RightByte next y) → (g : List ℕ) (at : ℕ) (rest : List ℕ) → drop at g ≡ rest → at ≤ length g → Fault next rest →
+    have g at (must (ok (byte g at)) (refusal_of next at) go) ≡ Err (fault_refusal next at rest)
 byte_stopped next ok go sure g at x e h (missing w) =
     let l : length g - at ≡ 0 = sym (length-drop at g) ∙ ap length e in
     let z : length g ≡ at = omega arith in
@@ -94,14 +92,14 @@ byte_stopped next ok go sure g at x e h (missing w) =
 byte_stopped next ok go sure g at x e h (other y wrong rest) =
     rw (lt-ltb at (length g) (byte_inside g rest y at e), byte_is g rest y at e) (no_pass (ok y) refl)
   where
-    no_pass : (t : Bool) → ok y ≡ t → cond t go (Stop (refusal_of next at)) ≡ Stop (refusal_of next at)
+    no_pass : (t : Bool) → ok y ≡ t → cond t go (Err (refusal_of next at)) ≡ Err (refusal_of next at)
     no_pass true o = absurd (wrong (sure y o))
     no_pass false o = refl
 
 -- bytes that pass their test, and then a fault
 each_stopped :
     (ok : ℕ → Bool) (fault : ℕ → Refusal) (g : List ℕ) (next : NextByte) → ((y : ℕ) → ok y ≡ true → RightByte next y) → ((at : ℕ) → fault at ≡ refusal_of next at) → (x rest : List ℕ) (many at : ℕ) →
-    drop at g ≡ x ++ rest → at ≤ length g → ((i : ℕ) → i < length x → ok (get_or x i 0) ≡ true) → length x < many → Fault next rest → each_from ok fault g many at ≡ Stop (fault_refusal next (at + length x) rest)
+    drop at g ≡ x ++ rest → at ≤ length g → ((i : ℕ) → i < length x → ok (get_or x i 0) ≡ true) → length x < many → Fault next rest → each_from ok fault g many at ≡ Err (fault_refusal next (at + length x) rest)
 unfolding each_from
 each_stopped ok fault g next sure same x rest many at e h good l bad =
     let m : many - length x ≡ suc (many - length x - 1) = omega arith in
@@ -110,13 +108,13 @@ each_stopped ok fault g next sure same x rest many at e h good l bad =
 
 -- a section of flags stops at its count, or at a flag
 module _ (g : List ℕ) (most at : ℕ) where
-  count_stopped : (rest : List ℕ) → drop at g ≡ rest → at ≤ length g → Fault (count_between 1 most) rest → flags_section g most at ≡ Stop (fault_refusal (count_between 1 most) at rest)
+  count_stopped : (rest : List ℕ) → drop at g ≡ rest → at ≤ length g → Fault (count_between 1 most) rest → flags_section g most at ≡ Err (fault_refusal (count_between 1 most) at rest)
   unfolding flags_section
   count_stopped rest e h bad =
-      ap (λ (p : Pass). have g at p) (one (leb 1 (byte g at)) (leb (byte g at) most))
+      ap (λ (p : Result ℕ Refusal). have g at p) (one (leb 1 (byte g at)) (leb (byte g at) most))
       ∙ byte_stopped (count_between 1 most) (λ y. cond (leb 1 y) (leb y most) false) go sure g at rest e h bad
     where
-      go : Pass
+      go : Result ℕ Refusal
       go = flags_from g (byte g at) (at + 1)
 
       one : (a b : Bool) → must a (CountOutsideLimits at) (must b (CountOutsideLimits at) go) ≡ must (cond a b false) (CountOutsideLimits at) go
@@ -130,7 +128,7 @@ module _ (g : List ℕ) (most at : ℕ) where
           by true q r = (leb-true 1 y q, leb-true y most r)
           by false q r = absurd (let z : ◌≡◌ {A = ℕ} 0 1 = cc in omega arith)
 
-  flag_stopped : (x rest : List ℕ) (many : ℕ) → drop at g ≡ (many ∷ x) ++ rest → FlagsSoFar most many x → length x < many → Fault flag_byte rest → flags_section g most at ≡ Stop (fault_refusal flag_byte (at + 1 + length x) rest)
+  flag_stopped : (x rest : List ℕ) (many : ℕ) → drop at g ≡ (many ∷ x) ++ rest → FlagsSoFar most many x → length x < many → Fault flag_byte rest → flags_section g most at ≡ Err (fault_refusal flag_byte (at + 1 + length x) rest)
   unfolding flags_section
   flag_stopped x rest many e w l bad =
       let inside : at < length g = byte_inside g (x ++ rest) many at e in
@@ -139,17 +137,17 @@ module _ (g : List ℕ) (most at : ℕ) where
       (λ i j. le-leb (get_or x i 0) 1 (w.within i j)) l bad)
 
 -- the section of rules stops at its count
-rule_count_stopped : (g : List ℕ) (t n at : ℕ) (rest : List ℕ) → drop at g ≡ rest → at ≤ length g → Fault (count_between 0 128) rest → rules_section g t n at ≡ Stop (fault_refusal (count_between 0 128) at rest)
+rule_count_stopped : (g : List ℕ) (t n at : ℕ) (rest : List ℕ) → drop at g ≡ rest → at ≤ length g → Fault (count_between 0 128) rest → rules_section g t n at ≡ Err (fault_refusal (count_between 0 128) at rest)
 unfolding rules_section
 rule_count_stopped g t n at rest e h bad = byte_stopped (count_between 0 128) (λ y. leb y 128) _ (λ y o. (omega arith, leb-true y 128 o)) g at rest e h bad
 
 -- a rule stops at its left category, its length or a symbol
 module _ (G : Grammar) (g : List ℕ) (at : ℕ) where
-  left_stopped : (rest : List ℕ) → drop at g ≡ rest → at ≤ length g → Fault (left_of G) rest → rule_from g (length G.classes) (length G.categories) at ≡ Stop (fault_refusal (left_of G) at rest)
+  left_stopped : (rest : List ℕ) → drop at g ≡ rest → at ≤ length g → Fault (left_of G) rest → rule_from g (length G.classes) (length G.categories) at ≡ Err (fault_refusal (left_of G) at rest)
   unfolding rule_from
   left_stopped rest e h bad = byte_stopped (left_of G) (λ y. ltb y (length G.categories)) _ (λ y o. ltb-true y (length G.categories) o) g at rest e h bad
 
-  length_stopped : (A : ℕ) (rest : List ℕ) → drop at g ≡ A ∷ rest → A < length G.categories → Fault (count_between 0 8) rest → rule_from g (length G.classes) (length G.categories) at ≡ Stop (fault_refusal (count_between 0 8) (at + 1) rest)
+  length_stopped : (A : ℕ) (rest : List ℕ) → drop at g ≡ A ∷ rest → A < length G.categories → Fault (count_between 0 8) rest → rule_from g (length G.classes) (length G.categories) at ≡ Err (fault_refusal (count_between 0 8) (at + 1) rest)
   unfolding rule_from
   length_stopped A rest e l bad =
       let inside : at < length g = byte_inside g rest A at e in
@@ -158,7 +156,7 @@ module _ (G : Grammar) (g : List ℕ) (at : ℕ) where
 
   symbol_stopped :
       (A k : ℕ) (s rest : List ℕ) → drop at g ≡ A ∷ (k ∷ (s ++ rest)) → RuleWithin G (rule A s) → length s < k → k ≤ 8 → Fault (symbol_of G) rest →
-      rule_from g (length G.classes) (length G.categories) at ≡ Stop (fault_refusal (symbol_of G) (at + 2 + length s) rest)
+      rule_from g (length G.classes) (length G.categories) at ≡ Err (fault_refusal (symbol_of G) (at + 2 + length s) rest)
   unfolding rule_from
   symbol_stopped A k s rest e w l h bad =
       let next : drop (at + 1) g ≡ k ∷ (s ++ rest) = byte_after g (k ∷ (s ++ rest)) A at e in
@@ -176,13 +174,13 @@ module _ (G : Grammar) (g : List ℕ) (at : ℕ) where
       (rw two (byte_after g (s ++ rest) k (at + 1) next)) (omega arith) (λ i j. symbol_passed G (get_or s i 0) (w.symbols i j)) l bad)
 
 -- where the section of categories stops, the reading does
-classes_stopped : (g f rest : List ℕ) → g ≡ (length f ∷ f) ++ rest → FlagsSoFar 128 (length f) f → (refusal : Refusal) → flags_section g 32 (1 + length f) ≡ Stop refusal → read_of g ≡ Refused refusal
+classes_stopped : (g f rest : List ℕ) → g ≡ (length f ∷ f) ++ rest → FlagsSoFar 128 (length f) f → (refusal : Refusal) → flags_section g 32 (1 + length f) ≡ Err refusal → read_of g ≡ Err refusal
 classes_stopped g f rest e v refusal s = read_refused g refusal (sections_second g (1 + length f) (classes_to g f rest e v) refusal s)
 
 -- where the section of rules stops, the reading does
 categories_stopped :
     (g f h rest : List ℕ) → g ≡ (length f ∷ f) ++ ((length h ∷ h) ++ rest) → FlagsSoFar 128 (length f) f → FlagsSoFar 32 (length h) h → (refusal : Refusal) →
-    rules_section g (length f) (length h) (1 + length f + 1 + length h) ≡ Stop refusal → read_of g ≡ Refused refusal
+    rules_section g (length f) (length h) (1 + length f + 1 + length h) ≡ Err refusal → read_of g ≡ Err refusal
 categories_stopped g f h rest e v w refusal s =
     let c = counts_are g f h rest e in
     read_refused g refusal
@@ -191,7 +189,7 @@ categories_stopped g f h rest e v w refusal s =
 -- where a rule stops that comes after those of G, the reading does
 rule_stopped :
     {G : Grammar} {P : ℕ} → RulesSoFar G P → (g rest : List ℕ) → g ≡ bytes_so_far G P ++ rest → (refusal : Refusal) →
-    rule_from g (length G.classes) (length G.categories) (length (bytes_so_far G P)) ≡ Stop refusal → read_of g ≡ Refused refusal
+    rule_from g (length G.classes) (length G.categories) (length (bytes_so_far G P)) ≡ Err refusal → read_of g ≡ Err refusal
 rule_stopped {G} {P} u g rest e refusal s =
     read_refused g refusal
     (sections_stop G P g rest e u.within refusal
@@ -207,11 +205,11 @@ module _ (g b rest : List ℕ) (e : g ≡ b ++ rest) where
   beginning_inside = rw e (omega (arith, length-append b rest))
 
 -- the same place, said in another way
-placed : (g rest : List ℕ) (next : NextByte) (at : ℕ) {place : ℕ} → at ≡ place → read_of g ≡ Refused (fault_refusal next at rest) → read_of g ≡ Refused (fault_refusal next place rest)
+placed : (g rest : List ℕ) (next : NextByte) (at : ℕ) {place : ℕ} → at ≡ place → read_of g ≡ Err (fault_refusal next at rest) → read_of g ≡ Err (fault_refusal next place rest)
 placed g rest next at e h = rw e at h
 
 -- the reading of a beginning and a fault
-pub fault_refused : {b : List ℕ} {next : NextByte} → Beginning b next → (rest : List ℕ) → Fault next rest → read_of (b ++ rest) ≡ Refused (fault_refusal next (length b) rest)
+pub fault_refused : {b : List ℕ} {next : NextByte} → Beginning b next → (rest : List ℕ) → Fault next rest → read_of (b ++ rest) ≡ Err (fault_refusal next (length b) rest)
 unfolding encode
 fault_refused no_byte rest bad = read_refused rest _ (sections_first rest _ (count_stopped rest 128 0 rest refl (omega arith) bad))
 fault_refused (some_classes {T} {f} v l) rest bad =
@@ -259,7 +257,7 @@ fault_refused (whole_grammar {G} w d) x (other y wrong rest) =
 -- the reading of rules so far, a whole rule that is one of them, and anything
 pub repeat_refused :
     {G : Grammar} {P : ℕ} {r : Rule} → RulesSoFar G P → RuleWithin G r → Repeats G r → (rest : List ℕ) →
-    read_of (bytes_so_far G P ++ (encode_rule r ++ rest)) ≡ Refused (RuleRepeated (length (bytes_so_far G P)))
+    read_of (bytes_so_far G P ++ (encode_rule r ++ rest)) ≡ Err (RuleRepeated (length (bytes_so_far G P)))
 repeat_refused {G} {P} {r} u v same rest =
     let b = bytes_so_far G P in
     let g = b ++ (encode_rule r ++ rest) in

@@ -1,19 +1,17 @@
 -- Laws of `specs/inner/Words.antt`: the word of a rule's symbols tells them, and it fits in 64 bits.
+use Rattle.std.proofs.Common.{Err, Ok, Result}
 use Prim.Native.Nat.{ℕ, suc, ◌+◌, ◌*◌, ◌-◌, ◌^◌, ◌≤◌, ◌<◌}
 use mathlib.Core.Path.{◌≡◌, refl, ap, ap₂, sym, ◌∙◌}
 use mathlib.Core.Bool.{Bool, true, false, cond}
 use mathlib.Core.List.{List, [], ◌∷◌, reverse, reverse_aux, reverse-reverse}
 use native.Mathlib.Nat.{le_trans, one-mul, mul_assoc, mul-le-mul_right, le-mul_of_pos_right, one-le-pow, pow-succ', pow-le-pow_right}
-use native.Mathlib.Numerals.{add-one}
 use native.Mathlib.Omega.{arith}
 use lib.ListN.{length, get_or, take, drop}
 use lib.Seq.{drop-cons}
 use lib.Dec.{ltb}
 use borrow.Author.Tests.{ltb-true}
 use Rattle.refusals.specs.declared.Refusal.{Refusal}
-use Rattle.grammar.specs.declared.reading.Pass.{Pass}
-use Rattle.grammar.specs.declared.reading.Pass.TheVariants.{To, Stop}
-use Rattle.grammar.specs.declared.reading.RulePass.TheVariants as rule
+use Rattle.grammar.specs.declared.reading.PassedRule.{PassedRule}
 use Rattle.grammar.specs.Reading.{byte, is_symbol}
 use Rattle.grammar.specs.inner.Words.{word_from, word_of, with_word}
 
@@ -61,13 +59,16 @@ word_tells a b x y e =
 abbrev pub Fits : ℕ → ℕ → Type 0
 Fits word left = (word + 1) * 256 ^ left ≤ 256 ^ 8
 
-pub fits_next : (word left symbol : ℕ) → 0 < left → symbol < 255 → Fits word left → (word * 256 + (symbol + 1) < 2 ^ 64) × Fits (word * 256 + (symbol + 1)) (left - 1)
-fits_next word left symbol h s f =
-    let more : left ≡ suc (left - 1) = omega arith in
-    let rest = 256 ^ (left - 1) in
-    let grown : 256 ^ left ≡ 256 * rest = ap (λ (k : ℕ). 256 ^ k) more ∙ pow-succ' 256 (left - 1) in
+fits_next :
+    (word count k symbol : ℕ) → k < count → symbol < 255 → Fits word (count - k) →
+    (word * 256 + (symbol + 1) < 2 ^ 64) × Fits (word * 256 + (symbol + 1)) (count - (k + 1))
+fits_next word count k symbol h s f =
+    let left = count - (k + 1) in
+    let more : count - k ≡ suc left = omega arith in
+    let rest = 256 ^ left in
+    let grown : 256 ^ (count - k) ≡ 256 * rest = ap (λ (k : ℕ). 256 ^ k) more ∙ pow-succ' 256 left in
     let bound : (word + 1) * 256 * rest ≤ 2 ^ 64 = rw (mul_assoc (word + 1) 256 rest) (rw grown at f) in
-    let low : (word + 1) * 256 ≤ (word + 1) * 256 * rest = le-mul_of_pos_right ((word + 1) * 256) (one-le-pow (left - 1) 256 (omega arith)) in
+    let low : (word + 1) * 256 ≤ (word + 1) * 256 * rest = le-mul_of_pos_right ((word + 1) * 256) (one-le-pow left 256 (omega arith)) in
     let next : word * 256 + (symbol + 1) + 1 ≤ (word + 1) * 256 = omega arith in
     (omega arith, le_trans (mul-le-mul_right rest next) bound)
 
@@ -80,11 +81,13 @@ unfolding word_from
 word_none g word left h = let z : left ≡ 0 = omega arith in rw z
 
 pub word_step :
-    (g : List ℕ) (word left at : ℕ) → 0 < left → at < length g → word_from word (take left (drop at g)) ≡ word_from (word * 256 + (byte g at + 1)) (take (left - 1) (drop (at + 1) g))
+    (g : List ℕ) (word count at k : ℕ) → k < count → at + k < length g →
+    word_from word (take (count - k) (drop (at + k) g)) ≡ word_from (word * 256 + (byte g (at + k) + 1)) (take (count - (k + 1)) (drop (at + (k + 1)) g))
 unfolding word_from
-word_step g word left at h l =
-    let more : left ≡ suc (left - 1) = omega arith in
-    let first : drop at g ≡ byte g at ∷ drop (at + 1) g = rw (add-one at) (drop-cons g at 0 l) in
+word_step g word count at k h l =
+    let more : count - k ≡ suc (count - (k + 1)) = omega arith in
+    let past : at + (k + 1) ≡ suc (at + k) = omega arith in
+    let first : drop (at + k) g ≡ byte g (at + k) ∷ drop (at + (k + 1)) g = rw past (drop-cons g (at + k) 0 l) in
     ap (word_from word) (ap₂ take more first)
 
 -- a symbol of at most 128 classes and 32 categories is small
@@ -95,17 +98,17 @@ symbol_small t n b h k e = go (ltb b 128) refl e
     go true q r = omega (arith, ltb-true b 128 q)
     go false q r = omega (arith, ltb-true (b - 128) n r)
 
--- a reading that stops, and one that goes on, with the word
-pub word_stop : {pass : Pass} {refusal : Refusal} (word : ℕ) → pass ≡ Stop refusal → with_word pass word ≡ rule.Stop refusal
-word_stop word e = rw e
+-- so the word fits with it
+pub symbol_fits :
+    (t n symbol word count k : ℕ) → t ≤ 128 → n ≤ 32 → is_symbol t n symbol ≡ true → k < count → Fits word (count - k) →
+    (word * 256 + (symbol + 1) < 2 ^ 64) × Fits (word * 256 + (symbol + 1)) (count - (k + 1))
+symbol_fits t n symbol word count k h i e l f = fits_next word count k symbol l (symbol_small t n symbol h i e) f
 
-pub word_to : {pass : Pass} {next : ℕ} (word : ℕ) → pass ≡ To next → with_word pass word ≡ rule.To next word
-word_to word e = rw e
+-- what a reading with its word says of the reading
+pub given_stop : (pass : Result ℕ Refusal) {refusal : Refusal} (word : ℕ) → with_word pass word ≡ Err refusal → pass ≡ Err refusal
+given_stop (Ok at) word e = absurd (let z : ◌≡◌ {A = ℕ} 0 1 = cc in omega arith)
+given_stop (Err other) {refusal} word e = let z : other ≡ refusal = cc in rw z
 
-pub given_stop : (pass : Pass) {refusal : Refusal} (word : ℕ) → with_word pass word ≡ rule.Stop refusal → pass ≡ Stop refusal
-given_stop (To at) word e = absurd (let z : ◌≡◌ {A = ℕ} 0 1 = cc in omega arith)
-given_stop (Stop other) {refusal} word e = let z : other ≡ refusal = cc in rw z
-
-pub given_to : (pass : Pass) {next word' : ℕ} (word : ℕ) → with_word pass word ≡ rule.To next word' → (pass ≡ To next) × (word ≡ word')
-given_to (To at) {next} word e = let z : at ≡ next = cc in (rw z, cc)
-given_to (Stop refusal) word e = absurd (let z : ◌≡◌ {A = ℕ} 0 1 = cc in omega arith)
+pub given_to : (pass : Result ℕ Refusal) {rule : PassedRule} (word : ℕ) → with_word pass word ≡ Ok rule → (pass ≡ Ok rule.next) × (word ≡ rule.word)
+given_to (Ok at) {rule} word e = let z : record { next = at; word = word } ≡ rule = cc in (ap (λ (r : PassedRule). Ok r.next) z, ap (λ (r : PassedRule). r.word) z)
+given_to (Err refusal) word e = absurd (let z : ◌≡◌ {A = ℕ} 0 1 = cc in omega arith)

@@ -1,22 +1,21 @@
 -- A question's grammar: what its reading finds as one check, its counts, and the grammar that it is.
-use Rattle.std.specs.Prelude.{ℕ, List}
-use Rattle.refusals.specs.declared.Check.{Check}
-use Rattle.refusals.specs.declared.Check.TheVariants as check
+use Rattle.refusals.specs.Check.{nothing_wrong}
+use Rattle.refusals.specs.declared.Refusal.{Refusal}
+use Rattle.std.specs.Prelude.{ℕ, List, Err, Ok, Result}
+use Rattle.refusals.specs.Check.{Check}
 use Rattle.derivation.specs.Grammar.{Grammar}
 use Rattle.grammar.specs.declared.reading.Sections.{Sections}
-use Rattle.grammar.specs.declared.reading.Reading.{Reading}
-use Rattle.grammar.specs.declared.reading.Reading.TheVariants.{Accepted, Refused}
 use Rattle.grammar.specs.Reading.{read_of}
 use Rattle.grammar.specs.Value.{grammar_of}
 
-abbrev pub check_of : Reading → Check
-check_of (Accepted s) = check.Passed
-check_of (Refused refusal) = check.Refused refusal
+abbrev pub check_of : Result Sections Refusal → Check
+check_of (Ok s) = nothing_wrong
+check_of (Err refusal) = Err refusal
 
 -- the counts and offsets of accepted bytes; all 0 where they are refused, and then no one asks
-abbrev pub sections_in : Reading → Sections
-sections_in (Accepted s) = s
-sections_in (Refused refusal) = record { classes = 0; categories = 0; rules = 0; flags = 0; first = 0; end = 0 }
+abbrev pub sections_in : Result Sections Refusal → Sections
+sections_in (Ok s) = s
+sections_in (Err refusal) = record { classes = 0; categories = 0; rules = 0; flags = 0; first = 0; end = 0 }
 
 abbrev pub grammar_check : List ℕ → Check
 grammar_check g = check_of (read_of g)

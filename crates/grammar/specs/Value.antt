@@ -1,8 +1,7 @@
 -- The grammar that bytes stand for: its flags and its rules, numbered from 0, and where each rule stands.
-use Rattle.std.specs.Prelude.{ℕ, zero, suc, ◌+◌, ◌≤◌, ◌<◌, ◌≡◌, true, List, [], ◌∷◌, length, take, drop}
+use Rattle.std.specs.Prelude.{ℕ, zero, suc, ◌+◌, ◌≤◌, ◌<◌, ◌≡◌, true, List, [], ◌∷◌, length, take, drop, Ok}
 use Rattle.derivation.specs.Grammar.{Rule, Grammar, rule_at}
 use Rattle.grammar.specs.declared.reading.Sections.{Sections}
-use Rattle.grammar.specs.declared.reading.Reading.TheVariants.{Accepted}
 use Rattle.grammar.specs.Standing.{byte}
 unfoldable pub use Rattle.grammar.specs.Standing.{standing}
 pub use Rattle.grammar.specs.Standing.{after}
@@ -10,7 +9,7 @@ use Rattle.grammar.specs.Reading.{is_symbol, sections_of}
 
 -- the bytes begin with three sections, which have these counts and offsets
 abbrev pub Sectioned : List ℕ → Sections → Type 0
-Sectioned g s = sections_of g ≡ Accepted s
+Sectioned g s = sections_of g ≡ Ok s
 
 -- as many rules as `count`, from a position
 unfoldable pub rules_at : List ℕ → ℕ → ℕ → List Rule

@@ -7,9 +7,7 @@ use Rattle.grammar.specs.declared.view.View.{View}
 -- the view of bytes whose sections have these counts and offsets
 abbrev pub view_of : Bor (List ℕ) → Sections → View
 view_of g s =
-    record { bytes = g; classes = s.classes; categories = s.categories; rules = s.rules; flags = s.flags; first = s.first; end = s.end }
-
--- the counts and offsets that a view has beside its bytes
-abbrev pub sections_beside : View → Sections
-sections_beside v =
-    record { classes = v.classes; categories = v.categories; rules = v.rules; flags = v.flags; first = v.first; end = v.end }
+    record {
+      bytes = g;
+      sections = record { classes = s.classes; categories = s.categories; rules = s.rules; flags = s.flags; first = s.first; end = s.end };
+    }

@@ -1,7 +1,7 @@
 // Reads grammar bytes: three sections, each after its one-byte count. Every input is accepted with its counts and offsets,
 // or refused with the first fault in reading order.
-ghost use Rattle.std.specs.Prelude.{◌≡◌, [], ◌+◌, ◌≤◌, take, drop};
-ghost use Rattle.grammar.specs.Standing.{standing};
+ghost use Rattle.std.specs.Prelude.{◌≡◌, [], ◌+◌, ◌≤◌, ◌<◌, length, take, drop, MatchResult};
+ghost use Rattle.grammar.specs.Standing.{byte, standing};
 ghost use Rattle.grammar.specs.inner.Words.{word_of, with_word};
 ghost use Rattle.grammar.specs.Reading.{
   is_symbol,
@@ -15,7 +15,7 @@ ghost use Rattle.grammar.specs.Reading.{
   read_of,
 };
 
-use super::chains::on_chain;
+use super::chains::Chains;
 use refusals::Refusal;
 
 // The three counts, where the category flags and rule 0 begin, and the end of the last rule. Class flags begin at 1.
@@ -29,179 +29,158 @@ pub struct Sections {
     pub end: usize,
 }
 
+// Where the bytes of a rule that was passed over end, and its symbols as one word.
 #[derive(Clone, Copy)]
-pub enum Reading {
-    Accepted(Sections),
-    Refused(Refusal),
+pub struct PassedRule {
+    pub next: usize,
+    pub word: u64,
 }
 
-// Bytes were passed over up to a position, or the reading stops.
-#[derive(Clone, Copy)]
-pub enum Pass {
-    To(usize),
-    Stop(Refusal),
-}
-
-// The same of a rule, with its symbols as one word.
-#[derive(Clone, Copy)]
-pub enum RulePass {
-    To(usize, u64),
-    Stop(Refusal),
-}
-
-// A class below t, or 128 and a category below n.
-fn is_symbol(t: usize, n: usize, b: u8) -> bool
-    ensures { result ≡ is_symbol t n b }
+// The byte at a position; none stands past the end.
+fn byte_at(g: &[u8], at: usize) -> Result<u8, Refusal>
+    ensures { MatchResult result (λ b. (at < length g.now) × (b ≡ byte g.now at)) (λ r. (length g.now ≤ at) × (r ≡ Refusal.GrammarEndsEarly (length g.now))) }
 {
-    let x = b as usize;
-    if x < 128 { x < t } else { x - 128 < n }
+    match g.get(at) {
+        Some(byte) => Ok(*byte),
+        None => Err(Refusal::GrammarEndsEarly { length: g.len() }),
+    }
 }
 
-fn pass_flags(g: &[u8], count: usize, at: usize) -> Pass
+// As many flags as count, from a position.
+#[tactic(auto, using(crate::proofs::ReadingLaws::each_byte))]
+fn pass_flags(g: &[u8], count: usize, at: usize) -> Result<usize, Refusal>
     ensures { result ≡ flags_from g.now count at }
 {
-    let mut here = at;
-    let mut left = count;
-    while 0 < left {
-        if g.len() <= here {
-            return Pass::Stop(Refusal::GrammarEndsEarly { length: g.len() });
-        }
-        if 1 < g[here] {
-            return Pass::Stop(Refusal::FlagAboveOne { at: here });
-        }
-        here += 1;
-        left -= 1;
-    }
-    Pass::To(here)
-}
-
-fn pass_symbols(g: &[u8], t: usize, n: usize, count: usize, at: usize) -> RulePass
-    requires { (t ≤ 128) × (n ≤ 32) × (count ≤ 8) }
-    ensures { result ≡ with_word (symbols_from g.now t n count at) (word_of (take count (drop at g.now))) }
-{
-    let mut here = at;
-    let mut left = count;
-    let mut word = 0u64;
-    while 0 < left {
-        if g.len() <= here {
-            return RulePass::Stop(Refusal::GrammarEndsEarly { length: g.len() });
-        }
-        let symbol = g[here];
-        if !is_symbol(t, n, symbol) {
-            return RulePass::Stop(Refusal::NotInGrammar { at: here });
-        }
-        word = word * 256 + (symbol as u64 + 1);
-        here += 1;
-        left -= 1;
-    }
-    RulePass::To(here, word)
-}
-
-// A rule: its left category, its length, its symbols.
-fn pass_rule(g: &[u8], t: usize, n: usize, at: usize) -> RulePass
-    requires { (t ≤ 128) × (n ≤ 32) }
-    ensures { result ≡ with_word (rule_from g.now t n at) (word_of (standing g.now at).right) }
-{
-    if g.len() <= at {
-        return RulePass::Stop(Refusal::GrammarEndsEarly { length: g.len() });
-    }
-    if n <= g[at] as usize {
-        return RulePass::Stop(Refusal::NotInGrammar { at });
-    }
-    let next = at + 1;
-    if g.len() <= next {
-        return RulePass::Stop(Refusal::GrammarEndsEarly { length: g.len() });
-    }
-    let k = g[next] as usize;
-    if 8 < k {
-        return RulePass::Stop(Refusal::CountOutsideLimits { at: next });
-    }
-    pass_symbols(g, t, n, k, at + 2)
-}
-
-// As many rules as count, of which rule 0 stands at first, and none repeats an earlier one. The rules so far are on chains, 37 for each
-// left category: words has the word of each rule, before the entry after it, and latest the entry of each chain.
-fn pass_rules(g: &[u8], t: usize, n: usize, count: usize, first: usize) -> Pass
-    requires { (t ≤ 128) × (n ≤ 32) × (count ≤ 128) }
-    ensures { result ≡ rules_from g.now t n [] count first }
-{
-    let mut words = [0u64; 128];
-    let mut before = [0u8; 128];
-    let mut latest = [0u8; 1184];
-    let mut here = first;
-    let mut p = 0;
-    while p < count {
-        match pass_rule(g, t, n, here) {
-            RulePass::Stop(refusal) => return Pass::Stop(refusal),
-            RulePass::To(next, word) => {
-                let chain = g[here] as usize * 37 + (word % 37) as usize;
-                let entry = latest[chain];
-                if on_chain(&words, &before, entry as usize, word) {
-                    return Pass::Stop(Refusal::RuleRepeated { at: here });
-                }
-                words[p] = word;
-                before[p] = entry;
-                p += 1;
-                latest[chain] = p as u8;
-                here = next;
-            }
+    for k in 0..count {
+        let here = at + k;
+        let flag = byte_at(g, here)?;
+        if 1 < flag {
+            return Err(Refusal::FlagAboveOne { at: here });
         }
     }
-    Pass::To(here)
+    Ok(at + count)
 }
 
 // A section of flags: its count, 1 to most, and as many flags.
-fn pass_flags_section(g: &[u8], most: usize, at: usize) -> Pass
+#[tactic(auto, using(std::proofs::lemmas::Bool::Decides::nat_tests), unfolding(crate::specs::Reading::flags_section))]
+fn pass_flags_section(g: &[u8], most: u8, at: usize) -> Result<usize, Refusal>
     ensures { result ≡ flags_section g.now most at }
 {
-    if g.len() <= at {
-        return Pass::Stop(Refusal::GrammarEndsEarly { length: g.len() });
+    let count = byte_at(g, at)?;
+    if !(1..=most).contains(&count) {
+        return Err(Refusal::CountOutsideLimits { at });
     }
-    let count = g[at] as usize;
-    if count < 1 {
-        return Pass::Stop(Refusal::CountOutsideLimits { at });
-    }
-    if most < count {
-        return Pass::Stop(Refusal::CountOutsideLimits { at });
-    }
-    pass_flags(g, count, at + 1)
+    pass_flags(g, usize::from(count), at + 1)
 }
 
-// The section of rules: its count, at most 128, and as many rules.
-fn pass_rules_section(g: &[u8], t: usize, n: usize, at: usize) -> Pass
-    requires { (t ≤ 128) × (n ≤ 32) }
-    ensures { result ≡ rules_section g.now t n at }
-{
-    if g.len() <= at {
-        return Pass::Stop(Refusal::GrammarEndsEarly { length: g.len() });
+// Grammar bytes, and the counts of classes and categories that stand in them.
+#[derive(Clone, Copy)]
+struct Counted<'a> {
+    bytes: &'a [u8],
+    classes: usize,
+    categories: usize,
+    ghost limits: { (classes ≤ 128) × (categories ≤ 32) },
+}
+
+impl<'a> Counted<'a> {
+    // A class, or 128 and a category.
+    fn is_symbol(self, b: u8) -> bool
+        ensures { result ≡ is_symbol self.entry.classes self.entry.categories b }
+    {
+        let x = usize::from(b);
+        if x < 128 {
+            x < self.classes
+        } else {
+            x - 128 < self.categories
+        }
     }
-    let count = g[at] as usize;
-    if 128 < count {
-        return Pass::Stop(Refusal::CountOutsideLimits { at });
+
+    // As many symbols as count, from a position, and their word.
+    #[tactic(auto, using(crate::proofs::ReadingLaws::each_byte, crate::proofs::WordLaws::word_none))]
+    fn pass_symbols(self, count: usize, at: usize) -> Result<PassedRule, Refusal>
+        requires { count ≤ 8 }
+        ensures { result ≡ with_word (symbols_from self.entry.bytes.now self.entry.classes self.entry.categories count at) (word_of (take count (drop at self.entry.bytes.now))) }
+    {
+        let mut word = 0;
+        for k in 0..count {
+            let here = at + k;
+            let symbol = byte_at(self.bytes, here)?;
+            if !self.is_symbol(symbol) {
+                return Err(Refusal::NotInGrammar { at: here });
+            }
+            word = word * 256 + (u64::from(symbol) + 1);
+        }
+        Ok(PassedRule {
+            next: at + count,
+            word,
+        })
     }
-    pass_rules(g, t, n, count, at + 1)
+
+    // A rule: its left category, its length, its symbols.
+    #[tactic(auto, using(std::proofs::lemmas::Bool::Decides::nat_tests), unfolding(crate::specs::Reading::rule_from, crate::specs::Standing::standing))]
+    fn pass_rule(self, at: usize) -> Result<PassedRule, Refusal>
+        ensures { result ≡ with_word (rule_from self.entry.bytes.now self.entry.classes self.entry.categories at) (word_of (standing self.entry.bytes.now at).right) }
+    {
+        let left = byte_at(self.bytes, at)?;
+        if self.categories <= usize::from(left) {
+            return Err(Refusal::NotInGrammar { at });
+        }
+        let next = at + 1;
+        let count = byte_at(self.bytes, next)?;
+        if 8 < count {
+            return Err(Refusal::CountOutsideLimits { at: next });
+        }
+        self.pass_symbols(usize::from(count), at + 2)
+    }
+
+    // As many rules as count, of which rule 0 stands at first, and none repeats an earlier one: the rules so far are on chains.
+    #[tactic(auto, using(crate::proofs::Passing::none_yet, crate::proofs::Passing::next_more))]
+    fn pass_rules(self, count: usize, first: usize) -> Result<usize, Refusal>
+        requires { count ≤ 128 }
+        ensures { result ≡ rules_from self.entry.bytes.now self.entry.classes self.entry.categories [] count first }
+    {
+        let mut chains = Chains::new();
+        let mut here = first;
+        for _ in 0..count {
+            let passed = self.pass_rule(here)?;
+            if !chains.insert(self.bytes[here], passed.word) {
+                return Err(Refusal::RuleRepeated { at: here });
+            }
+            here = passed.next;
+        }
+        Ok(here)
+    }
+
+    // The section of rules: its count, at most 128, and as many rules.
+    #[tactic(auto, using(std::proofs::lemmas::Bool::Decides::nat_tests), unfolding(crate::specs::Reading::rules_section))]
+    fn pass_rules_section(self, at: usize) -> Result<usize, Refusal>
+        ensures { result ≡ rules_section self.entry.bytes.now self.entry.classes self.entry.categories at }
+    {
+        let count = byte_at(self.bytes, at)?;
+        if 128 < count {
+            return Err(Refusal::CountOutsideLimits { at });
+        }
+        self.pass_rules(usize::from(count), at + 1)
+    }
 }
 
 // Classes, categories, rules, whatever stands after them.
-pub fn read_sections(g: &[u8]) -> Reading
+#[tactic(auto, using(crate::proofs::ReadingLaws::flags_section_to, crate::proofs::ReadingLaws::rules_section_to), unfolding(crate::specs::Reading::sections_of))]
+pub fn read_sections(g: &[u8]) -> Result<Sections, Refusal>
     ensures { result ≡ sections_of g.now }
 {
-    let a = match pass_flags_section(g, 128, 0) {
-        Pass::Stop(refusal) => return Reading::Refused(refusal),
-        Pass::To(next) => next,
-    };
+    let a = pass_flags_section(g, 128, 0)?;
     let classes = g[0] as usize;
-    let b = match pass_flags_section(g, 32, a) {
-        Pass::Stop(refusal) => return Reading::Refused(refusal),
-        Pass::To(next) => next,
-    };
+    let b = pass_flags_section(g, 32, a)?;
     let categories = g[a] as usize;
-    let end = match pass_rules_section(g, classes, categories, b) {
-        Pass::Stop(refusal) => return Reading::Refused(refusal),
-        Pass::To(next) => next,
+    let counted = Counted {
+        bytes: g,
+        classes,
+        categories,
     };
+    let end = counted.pass_rules_section(b)?;
     let rules = g[b] as usize;
-    Reading::Accepted(Sections {
+    Ok(Sections {
         classes,
         categories,
         rules,
@@ -212,18 +191,14 @@ pub fn read_sections(g: &[u8]) -> Reading
 }
 
 // The three sections, and nothing after them.
-pub fn read(g: &[u8]) -> Reading
+#[tactic(auto, using(std::proofs::lemmas::Bool::Decides::nat_tests), unfolding(crate::specs::Reading::read_of))]
+pub fn read(g: &[u8]) -> Result<Sections, Refusal>
     ensures { result ≡ read_of g.now }
 {
-    match read_sections(g) {
-        Reading::Refused(refusal) => Reading::Refused(refusal),
-        Reading::Accepted(s) => {
-            let end = s.end;
-            if end < g.len() {
-                Reading::Refused(Refusal::BytesAfterRules { at: end })
-            } else {
-                Reading::Accepted(s)
-            }
-        }
+    let s = read_sections(g)?;
+    let end = s.end;
+    if end < g.len() {
+        return Err(Refusal::BytesAfterRules { at: end });
     }
+    Ok(s)
 }

@@ -1,16 +1,59 @@
-// What read sections hold: where each rule stands, what stands there, and the flags.
+// What read sections hold: the rule that stands at a position, and the flags.
 ghost use Rattle.std.specs.Prelude.{◌≡◌, ◌<◌, ◌≤◌, length, get_or};
 ghost use Rattle.grammar.specs.Value.{Sectioned, Stands, standing, after, grammar_of};
-ghost use Rattle.grammar.specs.inner.Starts.{Starts};
 
 use super::reading::Sections;
+use super::view::{Checked, view_of};
+
+// Bytes, and a position at which a whole rule stands.
+#[derive(Clone, Copy)]
+pub struct RuleAt<'a> {
+    pub bytes: &'a [u8],
+    pub at: usize,
+    pub ghost stands: { Stands bytes.now at },
+}
+
+impl<'a> RuleAt<'a> {
+    // Its left category.
+    #[tactic(auto, using(crate::proofs::Accepted::left_is))]
+    pub fn left(self) -> u8
+        ensures { result ≡ (standing self.entry.bytes.now self.entry.at).left }
+    {
+        self.bytes[self.at]
+    }
+
+    // Its number of symbols.
+    #[tactic(auto, using(crate::proofs::Accepted::length_is))]
+    pub fn length(self) -> usize
+        ensures { (result ≡ length (standing self.entry.bytes.now self.entry.at).right) × (result ≤ 8) }
+    {
+        self.bytes[self.at + 1] as usize
+    }
+
+    // Its symbols, as a part of the bytes.
+    #[tactic(auto, using(crate::proofs::Accepted::symbols_is, crate::proofs::Accepted::length_is))]
+    pub fn symbols(self) -> &'a [u8]
+        ensures { result.now ≡ (standing self.entry.bytes.now self.entry.at).right }
+    {
+        let first = self.at + 2;
+        &self.bytes[first..self.after()]
+    }
+
+    // The position past it, where the next rule stands.
+    #[tactic(auto, using(crate::proofs::Accepted::length_is))]
+    pub fn after(self) -> usize
+        ensures { result ≡ after self.entry.bytes.now self.entry.at }
+    {
+        self.at + 2 + self.length()
+    }
+}
 
 // The left category of the rule that stands at a position.
 pub fn rule_left(g: &[u8], at: usize) -> u8
     requires { Stands g.now at }
     ensures { result ≡ (standing g.now at).left }
 {
-    g[at]
+    RuleAt { bytes: g, at }.left()
 }
 
 // Its number of symbols.
@@ -18,7 +61,7 @@ pub fn rule_length(g: &[u8], at: usize) -> usize
     requires { Stands g.now at }
     ensures { (result ≡ length (standing g.now at).right) × (result ≤ 8) }
 {
-    g[at + 1] as usize
+    RuleAt { bytes: g, at }.length()
 }
 
 // Its symbols, as a part of the bytes.
@@ -26,9 +69,7 @@ pub fn rule_symbols(g: &[u8], at: usize) -> &[u8]
     requires { Stands g.now at }
     ensures { result.now ≡ (standing g.now at).right }
 {
-    let a = at + 2;
-    let e = a + g[at + 1] as usize;
-    &g[a..e]
+    RuleAt { bytes: g, at }.symbols()
 }
 
 // The position past it, where the next rule stands.
@@ -36,24 +77,7 @@ pub fn rule_after(g: &[u8], at: usize) -> usize
     requires { Stands g.now at }
     ensures { result ≡ after g.now at }
 {
-    at + 2 + g[at + 1] as usize
-}
-
-// Where each rule stands, by its number, in one walk; 0 past the last rule.
-pub fn rule_starts(g: &[u8], s: Sections) -> [usize; 128]
-    requires { Sectioned g.now s }
-    ensures { Starts g.now s result }
-{
-    let rules = s.rules;
-    let mut starts = [0; 128];
-    let mut at = s.first;
-    let mut p = 0;
-    while p < rules {
-        starts[p] = at;
-        at = rule_after(g, at);
-        p += 1;
-    }
-    starts
+    RuleAt { bytes: g, at }.after()
 }
 
 // The flag of a class.
@@ -61,7 +85,10 @@ pub fn class_flag(g: &[u8], s: Sections, class: usize) -> u8
     requires { Sectioned g.now s × (class < s.classes) }
     ensures { (result ≡ get_or (grammar_of g.now s).classes class 0) × (result ≤ 1) }
 {
-    g[1 + class]
+    Checked {
+        view: view_of(g, s),
+    }
+    .class_flag(class)
 }
 
 // The flag of a category.
@@ -69,6 +96,8 @@ pub fn category_flag(g: &[u8], s: Sections, category: usize) -> u8
     requires { Sectioned g.now s × (category < s.categories) }
     ensures { (result ≡ get_or (grammar_of g.now s).categories category 0) × (result ≤ 1) }
 {
-    let flags = s.flags;
-    g[flags + category]
+    Checked {
+        view: view_of(g, s),
+    }
+    .category_flag(category)
 }

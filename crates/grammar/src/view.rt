@@ -1,22 +1,17 @@
 // The checked grammar as a view of the caller's own bytes: its three counts and its section offsets stand beside them, and nothing is copied.
-ghost use Rattle.std.specs.Prelude.{◌≡◌};
-ghost use Rattle.grammar.specs.Value.{Sectioned};
+ghost use Rattle.std.specs.Prelude.{◌≡◌, ◌<◌, ◌≤◌, get_or};
+ghost use Rattle.grammar.specs.Value.{Sectioned, grammar_of};
 ghost use Rattle.grammar.specs.inner.Starts.{Starts};
-ghost use Rattle.grammar.specs.View.{view_of, sections_beside};
+ghost use Rattle.grammar.specs.View.{view_of};
 
 use super::reading::Sections;
-use super::rules::rule_starts;
+use super::rules::RuleAt;
 
-// The bytes, the three counts, where the category flags and rule 0 begin, and the end of the last rule.
+// The bytes, and beside them the counts and the offsets.
 #[derive(Clone, Copy)]
 pub struct View<'a> {
     pub bytes: &'a [u8],
-    pub classes: usize,
-    pub categories: usize,
-    pub rules: usize,
-    pub flags: usize,
-    pub first: usize,
-    pub end: usize,
+    pub sections: Sections,
 }
 
 // The view of bytes with their counts and offsets.
@@ -25,41 +20,56 @@ pub fn view_of<'a>(g: &'a [u8], s: Sections) -> View<'a>
 {
     View {
         bytes: g,
-        classes: s.classes,
-        categories: s.categories,
-        rules: s.rules,
-        flags: s.flags,
-        first: s.first,
-        end: s.end,
+        sections: s,
     }
 }
 
-// The counts and offsets beside the bytes.
-pub fn sections_of<'a>(v: View<'a>) -> Sections
-    ensures { result ≡ sections_beside v.entry }
-{
-    Sections {
-        classes: v.classes,
-        categories: v.categories,
-        rules: v.rules,
-        flags: v.flags,
-        first: v.first,
-        end: v.end,
+// A view whose bytes begin with these sections.
+#[derive(Clone, Copy)]
+pub struct Checked<'a> {
+    pub view: View<'a>,
+    pub ghost sectioned: { Sectioned view.bytes.now view.sections },
+}
+
+impl<'a> Checked<'a> {
+    // Where each rule stands, by its number, in one walk; 0 past the last rule.
+    pub fn rule_starts(self) -> [usize; 128]
+        ensures { Starts self.entry.view.bytes.now self.entry.view.sections result }
+    {
+        let View { bytes, sections } = self.view;
+        let mut starts = [0; 128];
+        let mut at = sections.first;
+        for start in &mut starts[..sections.rules] {
+            *start = at;
+            at = RuleAt { bytes, at }.after();
+        }
+        starts
+    }
+
+    // The flag of a class.
+    pub fn class_flag(self, class: usize) -> u8
+        requires { class < self.view.sections.classes }
+        ensures { (result ≡ get_or (grammar_of self.entry.view.bytes.now self.entry.view.sections).classes class 0) × (result ≤ 1) }
+    {
+        self.view.bytes[1 + class]
+    }
+
+    // The flag of a category.
+    pub fn category_flag(self, category: usize) -> u8
+        requires { category < self.view.sections.categories }
+        ensures { (result ≡ get_or (grammar_of self.entry.view.bytes.now self.entry.view.sections).categories category 0) × (result ≤ 1) }
+    {
+        self.view.bytes[self.view.sections.flags + category]
     }
 }
 
-// Where each rule of a view stands, by its number; 0 past the last rule.
-pub fn starts_in<'a>(v: View<'a>) -> [usize; 128]
-    requires { Sectioned v.bytes.now (sections_beside v) }
-    ensures { Starts v.entry.bytes.now (sections_beside v.entry) result }
-{
-    rule_starts(v.bytes, sections_of(v))
-}
-
-// The same from plain parameters, through the view: a caller of this one holds no view.
+// Where each rule of read sections stands, by its number; 0 past the last rule.
 pub fn rule_starts_of(g: &[u8], s: Sections) -> [usize; 128]
     requires { Sectioned g.now s }
     ensures { Starts g.now s result }
 {
-    starts_in(view_of(g, s))
+    Checked {
+        view: view_of(g, s),
+    }
+    .rule_starts()
 }

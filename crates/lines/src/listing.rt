@@ -1,94 +1,78 @@
-// Writes the lines of facts and of nodes, and the digits of marks, from the memory that holds them.
-ghost use Rattle.std.specs.Prelude.{map, ℕ, ◌+◌, ◌*◌, ◌≤◌, ◌<◌, length, get_or, take};
+// Prints the lines of facts and of nodes, and the line of marks, from the memory that holds them.
+ghost use Rattle.std.specs.Prelude.{map, ℕ, ◌+◌, ◌*◌, ◌/◌, ◌≤◌, ◌<◌, length, get_or};
 ghost use Rattle.derivation.specs.computed.Listing.{gathered};
 ghost use Rattle.lines.specs.Decimal.{digit_code};
-ghost use Rattle.lines.specs.inner.Stored.{Stored};
+ghost use Rattle.lines.specs.inner.Printed.{HasRoom, Printed};
 ghost use Rattle.lines.specs.Lines.{marks_of};
 ghost use Rattle.lines.specs.inner.Listing.{depth_line, fact_line_at, node_line_at};
 
-use super::writing::{write_byte, write_bytes, write_line};
+use super::writing::Page;
 
-// Writes the line of a fact, and nothing where its depth is 0.
-fn write_fact(
-    out: &mut [u8],
-    at: usize,
-    category: usize,
-    start: usize,
-    end: usize,
-    depth: usize,
-) -> usize
-    requires { (category < 100000) × (start < 100000) × (end < 100000) × (depth < 100000) × (at + 29 ≤ length out.old) }
-    ensures { Stored out.old at (depth_line category start end depth) out.new result }
-{
-    if depth == 0 {
-        return at;
+impl Page<'_> {
+    // Prints the line of a fact, and nothing where its depth is 0.
+    fn fact(&mut self, category: usize, start: usize, end: usize, depth: usize)
+        requires small { (category < 100000) × (start < 100000) × (end < 100000) × (depth < 100000) }
+        requires room { HasRoom self.old 29 }
+        ensures { Printed self.old (depth_line category start end depth) self.new }
+    {
+        if depth == 0 {
+            return;
+        }
+        self.line(b"fact", &[category, start, end, depth]);
     }
-    let fields = [category, start, end, depth];
-    write_line(out, at, b"fact", &fields)
-}
 
-// Writes the lines of facts whose depths are so many numbers in rows of a width.
-pub fn write_facts(out: &mut [u8], at: usize, depths: &[u16], numbers: usize, width: usize) -> usize
-    requires { (0 < width) × (numbers ≤ length depths.now) × (numbers ≤ 16384) × (at + 29 * numbers ≤ length out.old) }
-    ensures { Stored out.old at
-        (gathered numbers (fact_line_at depths.now width))
-        out.new result × (result ≤ at + 29 * numbers) }
-{
-    let mut place = at;
-    let mut q = 0;
-    while q < numbers {
-        let row = q / width;
-        let depth = depths[q] as usize;
-        place = write_fact(out, place, row / width, row % width, q % width, depth);
-        q += 1;
+    // Prints the lines of facts whose depths are numbers in rows of a width.
+    pub fn facts(&mut self, depths: &[u16], width: usize)
+        requires some_width { 0 < width }
+        requires few { length depths.now ≤ 16384 }
+        requires room { HasRoom self.old (29 * length depths.now) }
+        ensures printed { Printed self.old
+            (gathered (length depths.now) (fact_line_at depths.now width))
+            self.new }
+        ensures short { self.new.at ≤ self.old.at + 29 * length depths.now }
+    {
+        for (q, depth) in depths.iter().enumerate() {
+            let row = q / width;
+            self.fact(row / width, row % width, q % width, *depth as usize);
+        }
     }
-    place
-}
 
-// Writes a line for each node of four bytes.
-pub fn write_nodes(out: &mut [u8], at: usize, nodes: &[u8], count: usize) -> usize
-    requires { (4 * count ≤ length nodes.now) × (at + 21 * count ≤ length out.old) }
-    ensures { Stored out.old at (gathered count (node_line_at nodes.now)) out.new result × (result ≤ at + 21 * count) }
-{
-    let mut place = at;
-    let mut k = 0;
-    while k < count {
-        let first = 4 * k;
-        let fields = [
-            nodes[first] as usize,
-            nodes[first + 1] as usize,
-            nodes[first + 2] as usize,
-            nodes[first + 3] as usize,
-        ];
-        place = write_line(out, place, b"node", &fields);
-        k += 1;
+    // Prints a line for each node of four bytes.
+    pub fn nodes(&mut self, bytes: &[u8])
+        requires { HasRoom self.old (21 * (length bytes.now / 4)) }
+        ensures printed { Printed self.old
+            (gathered (length bytes.now / 4) (node_line_at bytes.now))
+            self.new }
+        ensures short { self.new.at ≤ self.old.at + 21 * (length bytes.now / 4) }
+    {
+        let (nodes, _) = bytes.as_chunks::<4>();
+        for node in nodes {
+            self.line(b"node", &node.map(usize::from));
+        }
     }
-    place
-}
 
-// Writes the line of the first n marks.
-pub fn write_marks(out: &mut [u8], marks: &[u8], n: usize) -> usize
-    requires { (n ≤ length marks.now) × (n + 7 ≤ length out.old) × ((t : ℕ) → t < n → get_or marks.now t 0 ≤ 1) }
-    ensures { Stored out.old 0 (marks_of (take n marks.now)) out.new result }
-{
-    let named = write_bytes(out, 0, b"marks");
-    if n == 0 {
-        return write_byte(out, named, b'\n');
+    // Prints the line of marks.
+    pub fn marks(&mut self, marks: &[u8])
+        requires room { HasRoom self.old (length marks.now + 7) }
+        requires bits { (t : ℕ) → t < length marks.now → get_or marks.now t 0 ≤ 1 }
+        ensures { Printed self.old (marks_of marks.now) self.new }
+    {
+        self.bytes(b"marks");
+        if !marks.is_empty() {
+            self.bytes(b" ");
+            self.digits(marks);
+        }
+        self.bytes(b"\n");
     }
-    let first = write_byte(out, named, b' ');
-    let last = write_digits(out, first, marks, n);
-    write_byte(out, last, b'\n')
-}
 
-// Writes a digit for each of the first n marks.
-fn write_digits(out: &mut [u8], at: usize, marks: &[u8], n: usize) -> usize
-    requires { (n ≤ length marks.now) × (at + n ≤ length out.old) × ((t : ℕ) → t < n → get_or marks.now t 0 ≤ 1) }
-    ensures { Stored out.old at (map digit_code (take n marks.now)) out.new result }
-{
-    let mut t = 0;
-    while t < n {
-        out[at + t] = 48 + marks[t];
-        t += 1;
+    // Prints a digit for each mark.
+    fn digits(&mut self, marks: &[u8])
+        requires room { HasRoom self.old (length marks.now) }
+        requires bits { (t : ℕ) → t < length marks.now → get_or marks.now t 0 ≤ 1 }
+        ensures { Printed self.old (map digit_code marks.now) self.new }
+    {
+        for mark in marks {
+            self.bytes(&[b'0' + *mark]);
+        }
     }
-    at + t
 }

@@ -1,9 +1,9 @@
 -- How far rows reach: the ends of one row, and those of the secret categories below k from a start.
-use Prim.Native.Nat.{ℕ, ◌+◌, ◌*◌, ◌≤◌, ◌<◌}
+use Prim.Native.Nat.{ℕ, ◌+◌, ◌*◌, ◌<◌, max}
 use mathlib.Core.Path.{◌≡◌}
 use mathlib.Core.Logic.{◌↔◌, ◌⊎◌, inl, inr, ⊎_elim}
 use mathlib.Core.List.{List}
-use native.Mathlib.Decide.{ℕ_discrete}
+use native.Mathlib.Decide.{ℕ_discrete, dec_lt}
 use native.Mathlib.Omega.{arith}
 use lib.ListN.{get_or}
 use Rattle.positions.specs.Member.{Member}
@@ -20,11 +20,12 @@ module _ (row far last : ℕ) (l : Last row last) where
   before_last : (t : ℕ) → (j : ℕ) × Member row j × (t < j) → t < last
   before_last t m = let n : last < m.0 → ⊥ = λ h. l.none_above m.0 h m.1 in omega (arith, m.2)
 
-  pub row_further : far < last → RowReachIs row far last
-  row_further h t = (λ k. inr (last, l.found, k), ⊎_elim (λ k. omega arith) (before_last t))
-
-  pub row_nearer : last ≤ far → RowReachIs row far far
-  row_nearer h t = (inl, ⊎_elim (λ k. k) (λ m. omega (arith, before_last t m)))
+  pub row_further : RowReachIs row far (max far last)
+  row_further t = (λ h. further h (dec_lt t far), ⊎_elim (λ k. omega arith) (λ m. omega (arith, before_last t m)))
+    where
+      further : t < max far last → Dec (t < far) → (t < far) ⊎ ((j : ℕ) × Member row j × (t < j))
+      further h (yes k) = inl k
+      further h (no k) = inr (last, l.found, omega arith)
 
 -- t is before an end from the start of a secret category below k
 abbrev pub BeforeEnd : Grammar → List ℕ → ℕ → ℕ → ℕ → ℕ → Type 0

@@ -1,11 +1,12 @@
 -- Any two outcomes that the contract of the marks allows are equal, and they are the computed marks.
+use Rattle.std.proofs.Common.{Err, Ok, Result}
+use Rattle.refusals.specs.declared.Refusal.{Refusal}
 use Prim.Native.Nat.{ℕ, zero, suc, ◌≤◌, ◌<◌}
 use mathlib.Core.Path.{◌≡◌, refl, sym, ap, ◌∙◌}
 use mathlib.Core.Logic.{◌↔◌}
 use mathlib.Core.Bool.{Bool, true, false, cond, true≢false}
 use mathlib.Core.List.{List, [], ◌∷◌}
 use native.Mathlib.Decide.{dec_lt}
-use native.Mathlib.Omega.{arith}
 use lib.ListN.{length, get_or, take}
 use lib.Seq.{ext_get_or, length-take-le, get_or-take}
 use Rattle.derivation.specs.Grammar.{Grammar, Proper}
@@ -20,8 +21,6 @@ use Rattle.refusals.specs.Order.{Checks}
 use Rattle.refusals.specs.Told as told
 use Rattle.checks.proofs.Laws.{one_refusal, not_both, reported_passed}
 use Rattle.filling.proofs.Unique.{filled_unique}
-use Rattle.marks.specs.declared.MarksAnswer.{MarksAnswer}
-use Rattle.marks.specs.declared.MarksAnswer.TheVariants as answers
 use Rattle.marks.specs.Told.{marks_told}
 use Rattle.marks.specs.Outcome.{marks_checks, MarksOutcome, turned_down, no_room, answered}
 use native.Mathlib.Omega.{arith}
@@ -69,9 +68,9 @@ marks_computed {G} {line} {marks} {marks'} proper room p =
     get_or-take (length line) marks' t 0 l ∙ mark_one (p.mark t l) (mark_computed G line t proper) ∙ sym (at_listed _ 0 (length line) t l))
 
 -- the values that are told are those of one answer
-told_marked : (a : MarksAnswer) (secret : ℕ) → marks_told a ≡ told.answered (secret ∷ []) → a ≡ answers.Marked secret
-told_marked (answers.Marked x) secret e = cc
-told_marked (answers.Refused refusal) secret e = cc
+told_marked : (a : Result ℕ Refusal) (secret : ℕ) → marks_told a ≡ told.answered (secret ∷ []) → a ≡ Ok secret
+told_marked (Ok x) secret e = cc
+told_marked (Err refusal) secret e = cc
 
 module _ (g line words depths marks : List ℕ) where
   abbrev checks : Checks
@@ -79,21 +78,21 @@ module _ (g line words depths marks : List ℕ) where
 
   -- two outcomes that the contract of the marks question allows are equal
   pub marks_outcome_unique :
-      {a b : MarksAnswer} {w d m w' d' m' : List ℕ} → MarksOutcome g line words depths marks a w d m → MarksOutcome g line words depths marks b w' d' m' →
+      {a b : Result ℕ Refusal} {w d m w' d' m' : List ℕ} → MarksOutcome g line words depths marks a w d m → MarksOutcome g line words depths marks b w' d' m' →
       (a ≡ b) × (w ≡ w') × (d ≡ d') × (m ≡ m')
   marks_outcome_unique (turned_down e p x y z) (turned_down f q x' y' z') =
-      let r = one_refusal e f in (p ∙ ap answers.Refused r ∙ sym q, x ∙ sym x', y ∙ sym y', z ∙ sym z')
+      let r = one_refusal e f in (p ∙ ap Err r ∙ sym q, x ∙ sym x', y ∙ sym y', z ∙ sym z')
   marks_outcome_unique (turned_down e p x y z) (no_room f l q x' z') = absurd (not_both e f)
   marks_outcome_unique (turned_down e p x y z) (answered f u x' z') = absurd (not_both e (reported_passed checks f).0)
   marks_outcome_unique (no_room e k p x z) (turned_down f q x' y' z') = absurd (not_both f e)
   marks_outcome_unique (no_room e k p x z) (no_room f l q x' z') =
       let r = one_refusal k l in
       let w = filled_unique _ line words depths x x' in
-      (p ∙ ap answers.Refused r ∙ sym q, w.0, w.1, z ∙ sym z')
+      (p ∙ ap Err r ∙ sym q, w.0, w.1, z ∙ sym z')
   marks_outcome_unique (no_room e k p x z) (answered f u x' z') = absurd (not_both k (reported_passed checks f).1)
   marks_outcome_unique (answered e t x z) (turned_down f q x' y' z') = absurd (not_both f (reported_passed checks e).0)
   marks_outcome_unique (answered e t x z) (no_room f l q x' z') = absurd (not_both l (reported_passed checks e).1)
   marks_outcome_unique {a} {b} (answered {secret = r} e t x z) (answered {secret = s} f u x' z') =
       let w = filled_unique _ line words depths x x' in
       let m = marks_unique z z' in
-      (told_marked a r t ∙ ap answers.Marked m.1 ∙ sym (told_marked b s u), w.0, w.1, m.0)
+      (told_marked a r t ∙ ap Ok m.1 ∙ sym (told_marked b s u), w.0, w.1, m.0)

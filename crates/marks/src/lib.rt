@@ -11,16 +11,9 @@ ghost use Rattle.marks.specs.Outcome.{MarksOutcome};
 use chart::work::checked;
 use checks::Asked;
 use filling::rounds::fill;
-use grammar::reading::{Reading, Sections};
+use grammar::reading::Sections;
 use grammar::rules::{category_flag, class_flag};
 use refusals::Refusal;
-
-// What the marks question answers: how many tokens are secret.
-#[derive(Clone, Copy)]
-pub enum MarksAnswer {
-    Marked { secret: usize },
-    Refused(Refusal),
-}
 
 // How far the ends of a row reach, or `far` where that is further.
 fn reach_of(row: u64, far: usize) -> usize
@@ -29,11 +22,7 @@ fn reach_of(row: u64, far: usize) -> usize
     if row == 0 {
         return far;
     }
-    let last = positions::last(row) as usize;
-    if far < last {
-        return last;
-    }
-    far
+    far.max(positions::last(row) as usize)
 }
 
 // How far the spans of secret categories reach that begin at the start, or `far` where that is further.
@@ -41,14 +30,11 @@ fn reach_from(g: &[u8], s: Sections, words: &[u64], width: usize, start: usize, 
     requires { Sectioned g.now s × (s.categories * width ≤ length words.now) × (start < width) × (width ≤ 64) }
     ensures { ReachIs (grammar_of g.now s) words.now width start far result }
 {
-    let categories = s.categories;
     let mut reach = far;
-    let mut a = 0;
-    while a < categories {
+    for a in 0..s.categories {
         if category_flag(g, s, a) == 1 {
             reach = reach_of(words[a * width + start], reach);
         }
-        a += 1;
     }
     reach
 }
@@ -64,42 +50,35 @@ fn mark_tokens(g: &[u8], s: Sections, line: &[u8], words: &[u64], marks: &mut [u
     let width = line.len() + 1;
     let mut secret = 0;
     let mut reach = 0;
-    let mut token = 0;
-    while token < line.len() {
+    for (token, class) in line.iter().enumerate() {
         reach = reach_from(g, s, words, width, token, reach);
         let mark = if token < reach {
             1
         } else {
-            class_flag(g, s, line[token] as usize)
+            class_flag(g, s, *class as usize)
         };
         marks[token] = mark;
         secret += mark as usize;
-        token += 1;
     }
     secret
 }
 
-// Marks the secret tokens of a line.
+// Marks the secret tokens of a line, and answers how many there are.
 pub fn marks(
     g: &[u8],
     line: &[u8],
     words: &mut [u64],
     depths: &mut [u16],
     marks: &mut [u8],
-) -> MarksAnswer
+) -> Result<usize, Refusal>
     ensures { MarksOutcome g.now line.now
         words.old depths.old marks.old result
         words.new depths.new marks.new }
 {
-    let s = match checked(g, line, Asked::Nothing, words.len(), depths.len()) {
-        Reading::Refused(refusal) => return MarksAnswer::Refused(refusal),
-        Reading::Accepted(s) => s,
-    };
+    let s = checked(g, line, Asked::Nothing, words.len(), depths.len())?;
     fill(g, s, line, words, depths);
     if marks.len() < line.len() {
-        return MarksAnswer::Refused(Refusal::MarksTooSmall { needed: line.len() });
+        return Err(Refusal::MarksTooSmall { needed: line.len() });
     }
-    MarksAnswer::Marked {
-        secret: mark_tokens(g, s, line, words, marks),
-    }
+    Ok(mark_tokens(g, s, line, words, marks))
 }

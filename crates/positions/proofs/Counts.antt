@@ -1,11 +1,20 @@
 -- The number of ones of a word is the number of its positions, at most one for each.
-use mathlib.Core.Path.{◌≡◌}
+use mathlib.Core.Path.{◌≡◌, refl}
 use Prim.Native.Nat.{ℕ, zero, suc, ◌+◌, ◌/◌, ◌^◌, ◌≤◌, ◌<◌, zero-le}
+use native.Mathlib.Numerals.{add-one}
 use native.Mathlib.Omega.{arith}
 use lib.Count.{ones, ones_step, ones-le}
 use Rattle.positions.specs.Member.{digit}
 use Rattle.positions.specs.Count.{count_below}
 use Rattle.positions.proofs.Digits.{digit_zero, digit_suc, digit_lt, half_lt}
+
+pub count_none : (set : ℕ) → count_below 0 set ≡ 0
+unfolding count_below
+count_none set = refl
+
+pub count_step : (k set : ℕ) → count_below (k + 1) set ≡ count_below k set + digit set k
+unfolding count_below
+count_step k set = rw add-one refl
 
 -- position 0 counted apart
 count_low : (k x : ℕ) → count_below (suc k) x ≡ digit x 0 + count_below k (x / 2)

@@ -10,7 +10,7 @@ use lib.Bits.{bit_and, bit_xor, xor_comm}
 use Rattle.positions.specs.Member.{digit, Member}
 use Rattle.positions.specs.First.{First}
 use Rattle.positions.proofs.Digits.{digit_zero, digit_suc, double_zero, double_suc}
-use Rattle.positions.proofs.Taking.{at_first, past_first}
+use Rattle.positions.proofs.Taking.{at_first, past_first, taken}
 use Rattle.positions.proofs.Members.{member?, none_member, member_below, and_member, xor_member, word_below}
 
 -- down by k: position j was j + k
@@ -126,3 +126,18 @@ module _ (x k : ℕ) (fits : x < 2 ^ 64) (here : Member x k) where
       let more : suc (q - 1) ≡ q = omega (arith, past_some) in
       let one : q * 2 ^ k ≡ (q - 1) * 2 ^ k + 2 ^ k = ap (λ (z : ℕ). z * 2 ^ k) (sym more) ∙ suc-mul (q - 1) (2 ^ k) in
       rw (fits_still x ((q - 1) * 2 ^ k) fits (λ i m. ((past_up i).0 m).0)) (omega (arith, one, div-mul-le_self x (2 ^ k), pow_pos k))
+
+-- a run of members, from m to its last
+pub record Run (x m end : ℕ) : Type 0 where
+  pub long : m ≤ end
+  pub small : end < 64
+  pub each : (j : ℕ) → m ≤ j → j ≤ end → Member x j
+  pub last : Member x end
+
+pub run : (x m r : ℕ) → x < 2 ^ 64 → (x ≡ 0 → ⊥) → First x m → First (bit_xor (x / 2 ^ m) 18446744073709551615) r → Run x m (m + r - 1)
+run x m r fits positive first f =
+    let here : Member x m = (taken x m first fits positive).here in
+    let some : 1 ≤ r = run_some x m r fits f here in
+    let long : m ≤ m + r - 1 = omega arith in
+    let each : (j : ℕ) → m ≤ j → j ≤ m + r - 1 → Member x j = λ j low high. let e : j - m + m ≡ j = omega arith in rw e at (run_member x m r fits f (j - m) (omega arith)) in
+    record { long = long; small = omega (arith, run_low x m r fits f here); each = each; last = each (m + r - 1) long (omega arith) }

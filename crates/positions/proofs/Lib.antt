@@ -5,6 +5,8 @@ pub mod Shifts
 pub mod Counts
 pub mod Extremes
 pub mod Taking
+pub mod Listed
+pub mod Chains
 pub mod Cuts
 pub mod Unions
 pub mod Unique

@@ -78,7 +78,7 @@ xor_member a b j s = go (member? a j) (member? b j)
         let z : digit (bit_xor a b) j ≡ 0 = digit_xor a b j ∙ ap₂ differ (no_digit a j n) (no_digit b j (λ m. n (s m))) in
         (λ m. absurd (omega arith), λ p. absurd (n p.0))
 
-lt_power : (x : ℕ) → x < 2 ^ x
+pub lt_power : (x : ℕ) → x < 2 ^ x
 lt_power zero = pow_pos 0
 lt_power (suc x) = omega (arith, pow-suc 2 x, lt_power x)
 

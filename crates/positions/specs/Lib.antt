@@ -1,5 +1,6 @@
 -- Sets of positions in a word: what each function's answer says.
 pub mod Member
+pub mod Ascending
 pub mod With
 pub mod Count
 pub mod First

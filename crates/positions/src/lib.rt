@@ -2,7 +2,9 @@
 #![tactic(auto)]
 
 ghost use Rattle.std.specs.Prelude.{◌≡◌, ◌+◌, ◌^◌, ◌≤◌, ◌<◌, eqb, length};
+ghost use Rattle.std.specs.Iterator.{YieldsFirst, item_count};
 ghost use Rattle.positions.specs.Member.{digit};
+ghost use Rattle.positions.specs.Ascending.{members_left};
 ghost use Rattle.positions.specs.With.{With};
 ghost use Rattle.positions.specs.Count.{count_below};
 ghost use Rattle.positions.specs.First.{First};
@@ -12,6 +14,7 @@ ghost use Rattle.positions.specs.Union.{Union};
 ghost use Rattle.positions.specs.AfterClass.{AfterClass};
 
 // Whether a position is in the set.
+#[tactic(auto, unfolding(crate::specs::Member::digit))]
 pub fn member(set: u64, at: usize) -> bool
     requires { at < 64 }
     ensures { result ≡ eqb (digit set at) 1 }
@@ -20,6 +23,7 @@ pub fn member(set: u64, at: usize) -> bool
 }
 
 // The set with one more position.
+#[tactic(auto, using(crate::proofs::Shifts::with_shift))]
 pub fn insert(set: u64, at: usize) -> u64
     requires { at < 64 }
     ensures { With set at result }
@@ -28,6 +32,7 @@ pub fn insert(set: u64, at: usize) -> u64
 }
 
 // How many positions the set has.
+#[tactic(auto, using(crate::proofs::Counts::ones_count))]
 pub fn count(set: u64) -> u32
     ensures { result ≡ count_below 64 set }
 {
@@ -35,6 +40,7 @@ pub fn count(set: u64) -> u32
 }
 
 // The smallest position of the set, and 64 for the empty set.
+#[tactic(auto, using(crate::proofs::Extremes::first_trailing))]
 pub fn first(set: u64) -> u32
     ensures { First set result }
 {
@@ -49,7 +55,38 @@ pub fn last(set: u64) -> u32
     63 - u64::leading_zeros(set)
 }
 
-// What stands for an end where a set has no position.
+// The members of a set, the smallest first: those of `left` are still to come.
+#[derive(Clone, Copy)]
+pub struct Ascending {
+    pub left: u64,
+}
+
+impl Iterator for Ascending {
+    type Item = usize;
+
+    ghost next_gives = { YieldsFirst members_left };
+
+    ghost remaining = { item_count members_left };
+
+    #[tactic(auto, using(crate::proofs::Listed::empty_list, crate::proofs::Listed::first_listed))]
+    fn next(&mut self) -> Option<usize> {
+        if self.left == 0 {
+            return None;
+        }
+        let m = first(self.left);
+        self.left = self.left & (self.left - 1);
+        Some(m as usize)
+    }
+}
+
+// The members of the set, ascending.
+pub fn members_of(set: u64) -> Ascending
+    ensures { result.left ≡ set }
+{
+    Ascending { left: set }
+}
+
+// What stands for an end where a set has no position: a number and no None, as the document and the exported functions answer.
 pub const NO_END: u32 = 255;
 
 // The smallest and the largest position of a set.
@@ -60,6 +97,7 @@ pub struct Ends {
 }
 
 // The smallest and the largest position of the set, and NO_END for both where it is empty.
+#[tactic(auto, using(crate::proofs::Extremes::both_none, crate::proofs::Extremes::both_some))]
 pub fn both_ends(set: u64) -> Ends
     ensures { BothEnds set result.smallest result.largest }
 {
@@ -90,15 +128,14 @@ pub fn union(set: u64, rows: &[u64], base: usize, from: usize, width: usize) -> 
     let fours = pairs & (pairs >> 2);
     let runs = fours & (fours >> 4);
     while left != 0 {
-        let mut m = first(left) as usize;
-        all |= rows[base + m];
+        let m = first(left) as usize;
         if runs == 0 || (runs >> m) & 1 == 0 {
+            all |= rows[base + m];
             left = left & (left - 1);
         } else {
             let last = m + first((left >> m) ^ 0xffff_ffff_ffff_ffff) as usize - 1;
-            while m < last {
-                m += 1;
-                all |= rows[base + m];
+            for row in &rows[base + m..=base + last] {
+                all |= *row;
             }
             left = ((left >> last) - 1) << last;
         }
@@ -107,6 +144,7 @@ pub fn union(set: u64, rows: &[u64], base: usize, from: usize, width: usize) -> 
 }
 
 // The positions right after those of the set that are in `places`, the positions at which the line has a class.
+#[tactic(auto, using(crate::proofs::Shifts::after_shift))]
 pub fn after_class(set: u64, places: u64) -> u64
     requires { places < 2 ^ 63 }
     ensures { AfterClass set places result }

@@ -1,3 +1,4 @@
+pub mod Check
 pub mod Row
 pub mod Order
 pub mod Told

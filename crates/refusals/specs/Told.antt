@@ -1,8 +1,8 @@
 -- What an answer tells in the document's terms.
-use Rattle.std.specs.Prelude.{ℕ, List, []}
+use Rattle.refusals.specs.Check.{nothing_wrong}
+use Rattle.std.specs.Prelude.{ℕ, List, [], Err, Ok}
 use Rattle.refusals.specs.declared.Row.{Row}
-use Rattle.refusals.specs.declared.Check.{Check}
-use Rattle.refusals.specs.declared.Check.TheVariants.{Passed, Refused}
+use Rattle.refusals.specs.Check.{Check}
 use Rattle.refusals.specs.Row.{row_of}
 
 -- the values answered, or the number and place of the refusal
@@ -12,8 +12,8 @@ pub data Told : Type 0 where
 
 -- a check that passes answers no value
 abbrev pub check_told : Check → Told
-check_told Passed = answered []
-check_told (Refused refusal) = refused (row_of refusal)
+check_told (Ok u) = answered []
+check_told (Err refusal) = refused (row_of refusal)
 
 -- the first where it is a refusal, or else the next
 abbrev pub told_first : Told → Told → Told

@@ -31,13 +31,6 @@ pub enum Refusal {
     JobBadlyFormed { at: usize },
 }
 
-// What one check finds.
-#[derive(Clone, Copy)]
-pub enum Check {
-    Passed,
-    Refused(Refusal),
-}
-
 // A row of the document's table: a refusal's number and place.
 #[derive(Clone, Copy)]
 pub struct Row {
@@ -46,81 +39,30 @@ pub struct Row {
 }
 
 // The number and the place of a refusal.
-pub fn row_of(refusal: Refusal) -> Row
-    ensures { result ≡ row_of refusal }
-{
-    match refusal {
-        Refusal::GrammarEndsEarly { length } => Row {
-            number: 1,
-            place: length,
-        },
-        Refusal::CountOutsideLimits { at } => Row {
-            number: 2,
-            place: at,
-        },
-        Refusal::FlagAboveOne { at } => Row {
-            number: 3,
-            place: at,
-        },
-        Refusal::NotInGrammar { at } => Row {
-            number: 4,
-            place: at,
-        },
-        Refusal::RuleRepeated { at } => Row {
-            number: 14,
-            place: at,
-        },
-        Refusal::BytesAfterRules { at } => Row {
-            number: 5,
-            place: at,
-        },
-        Refusal::LineTooLong => Row {
-            number: 6,
-            place: 63,
-        },
-        Refusal::TokenNoClass { token } => Row {
-            number: 7,
-            place: token,
-        },
-        Refusal::CategoryOutside => Row {
-            number: 8,
-            place: 0,
-        },
-        Refusal::StartOutside => Row {
-            number: 8,
-            place: 1,
-        },
-        Refusal::EndOutside => Row {
-            number: 8,
-            place: 2,
-        },
-        Refusal::ChartTooSmall => Row {
-            number: 9,
-            place: 0,
-        },
-        Refusal::DepthsTooSmall => Row {
-            number: 9,
-            place: 1,
-        },
-        Refusal::TreeOfNoFact => Row {
-            number: 10,
-            place: 0,
-        },
-        Refusal::MarksTooSmall { needed } => Row {
-            number: 11,
-            place: needed,
-        },
-        Refusal::ForestTooSmall { needed } => Row {
-            number: 11,
-            place: needed,
-        },
-        Refusal::TreeTooSmall => Row {
-            number: 11,
-            place: 0,
-        },
-        Refusal::JobBadlyFormed { at } => Row {
-            number: 13,
-            place: at,
-        },
+impl From<Refusal> for Row {
+    ghost from_gives = { λ refusal row. row ≡ row_of refusal };
+
+    fn from(refusal: Refusal) -> Row {
+        let (number, place) = match refusal {
+            Refusal::GrammarEndsEarly { length } => (1, length),
+            Refusal::CountOutsideLimits { at } => (2, at),
+            Refusal::FlagAboveOne { at } => (3, at),
+            Refusal::NotInGrammar { at } => (4, at),
+            Refusal::RuleRepeated { at } => (14, at),
+            Refusal::BytesAfterRules { at } => (5, at),
+            Refusal::LineTooLong => (6, 63),
+            Refusal::TokenNoClass { token } => (7, token),
+            Refusal::CategoryOutside => (8, 0),
+            Refusal::StartOutside => (8, 1),
+            Refusal::EndOutside => (8, 2),
+            Refusal::ChartTooSmall => (9, 0),
+            Refusal::DepthsTooSmall => (9, 1),
+            Refusal::TreeOfNoFact => (10, 0),
+            Refusal::MarksTooSmall { needed } => (11, needed),
+            Refusal::ForestTooSmall { needed } => (11, needed),
+            Refusal::TreeTooSmall => (11, 0),
+            Refusal::JobBadlyFormed { at } => (13, at),
+        };
+        Row { number, place }
     }
 }

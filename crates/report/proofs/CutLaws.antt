@@ -1,4 +1,6 @@
 -- A job of which only a first part was read is refused by 13, at the length of that part.
+use Rattle.std.proofs.Common.{Ok, Result}
+use Rattle.refusals.specs.declared.Refusal.{Refusal}
 use Prim.Native.Nat.{ℕ, ◌+◌, ◌≤◌, ◌<◌}
 use mathlib.Core.Path.{◌≡◌, ◌∙◌, ap}
 use mathlib.Core.List.{List}
@@ -11,8 +13,6 @@ use borrow.Author.Tests.{lt-ltb, le-ltb}
 use Rattle.refusals.specs.Told.{refused}
 use Rattle.grammar.specs.Reading.{byte}
 use Rattle.report.specs.declared.job.Job.{Job}
-use Rattle.report.specs.declared.job.JobReading.{JobReading}
-use Rattle.report.specs.declared.job.JobReading.TheVariants.{Read}
 use Rattle.report.specs.Job.{badly_formed, unless_short, line_at, questions_at, end_at, grammar_count, line_count, line_read, grammar_read, job_of}
 use Rattle.report.specs.Told.{job_told}
 use Rattle.report.proofs.JobLaws.{job_at, job_read}
@@ -35,10 +35,10 @@ module _ (b : List ℕ) (n : ℕ) (cut : n < length b) (short : length b ≤ 409
   same i h = get_or-take n b i 0 h
 
   -- where a section reaches past the part, that is the fault
-  past : (end : ℕ) (go : JobReading) → n < end → unless_short part end go ≡ badly_formed n
+  past : (end : ℕ) (go : Result Job Refusal) → n < end → unless_short part end go ≡ badly_formed n
   past end go h = rw (size, lt-ltb n end h)
 
-  before : (end : ℕ) (go : JobReading) → end ≤ n → unless_short part end go ≡ go
+  before : (end : ℕ) (go : Result Job Refusal) → end ≤ n → unless_short part end go ≡ go
   before end go h = rw (size, le-ltb n end h)
 
   line_cut : line_read part grammar line ≡ badly_formed n
@@ -69,5 +69,5 @@ module _ (b : List ℕ) (n : ℕ) (cut : n < length b) (short : length b ≤ 409
           let l = lt_of_not-le h in
           before _ _ (omega arith) ∙ rw (same 0 (omega arith), same 1 (omega arith)) grammar_cut
 
-pub cut_refused : (b : List ℕ) (job : Job) (n : ℕ) → job_of b ≡ Read job → n < length b → job_told (job_of (take n b)) ≡ refused (record { number = 13; place = n })
+pub cut_refused : (b : List ℕ) (job : Job) (n : ℕ) → job_of b ≡ Ok job → n < length b → job_told (job_of (take n b)) ≡ refused (record { number = 13; place = n })
 cut_refused b job n e cut = let read = job_read b job e in rw (job_cut b n cut read.short (read.whole ∙ ap end_at read.is))

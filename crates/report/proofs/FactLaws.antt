@@ -1,11 +1,13 @@
 -- The lines of facts, read off filled depths, are those of the document.
-use Prim.Native.Nat.{ℕ, zero, suc, ◌+◌, ◌*◌, ◌/◌, ◌%◌, ◌<◌}
+use Prim.Native.Nat.{ℕ, zero, suc, ◌+◌, ◌*◌, ◌/◌, ◌%◌, ◌≤◌, ◌<◌}
 use mathlib.Core.Path.{◌≡◌, refl, sym, ◌∙◌}
 use mathlib.Core.List.{List, append-nil, map, flatten}
 use native.Mathlib.Numerals.{add-one}
 use native.Mathlib.Nat.{mul-add-div_right, mul-add-mod_self_right, mod-eq_of_lt, div-eq_of_lt, add-zero}
 use native.Mathlib.Omega.{arith}
-use lib.ListN.{length, get_or}
+use lib.ListN.{length, get_or, take}
+use lib.Seq.{length-take-le}
+use Rattle.std.proofs.lemmas.List.{get_or-take}
 use Rattle.derivation.specs.Grammar.{Grammar, Proper}
 use Rattle.derivation.specs.computed.Listing.{gathered, kept}
 use Rattle.derivation.specs.computed.Table.{is_found, depth_of}
@@ -30,6 +32,10 @@ module _ (w A i j : ℕ) (a : i < w) (b : j < w) where
 
   start_of : ((A * w + i) * w + j) / w % w ≡ i
   start_of = rw row_of (mul-add-mod_self_right A w i ∙ mod-eq_of_lt a)
+
+-- the lines read off the first n depths
+pub lines_front : (depths : List ℕ) (width n : ℕ) → n ≤ length depths → gathered (length (take n depths)) (fact_line_at (take n depths) width) ≡ gathered n (fact_line_at depths width)
+lines_front depths width n h = rw (length-take-le n depths h) (gathered_same _ _ n (λ k l. rw (get_or-take n depths k 0 l)))
 
 -- a fact has its line, and no other span has one
 module _ (G : Grammar) (line : List ℕ) where

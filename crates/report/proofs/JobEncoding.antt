@@ -1,4 +1,5 @@
 -- Bytes are read as a job exactly when they are the encoding of grammar bytes, a line and questions, and those are what is read.
+use Rattle.std.proofs.Common.{Ok}
 use Prim.Native.Nat.{ℕ, zero, suc, ◌+◌, ◌*◌, ◌/◌, ◌%◌, ◌≤◌, ◌<◌}
 use mathlib.Core.Path.{◌≡◌, refl, ap, sym, ◌∙◌}
 use mathlib.Core.Logic.{◌↔◌}
@@ -12,7 +13,6 @@ use Rattle.grammar.proofs.Parts.{part_length}
 use Rattle.grammar.proofs.Encoded.{counted}
 use Rattle.grammar.proofs.Encoding.{byte_is, byte_after, bytes_are, bytes_after}
 use Rattle.report.specs.declared.job.Job.{Job}
-use Rattle.report.specs.declared.job.JobReading.TheVariants.{Read}
 use Rattle.report.specs.Job.{line_at, questions_at, end_at, grammar_count, job_of, grammar_part, line_part, questions_from, questions_part}
 use Rattle.report.specs.JobEncoding.{AreBytes, encode_questions, encode_job, JobWithin}
 use Rattle.report.proofs.JobLaws.{job_at, job_read, read_whole, questions_count}
@@ -147,7 +147,7 @@ module _ (b grammar line : List ℕ) (questions : List Span) (e : b ≡ encode_j
         byte_is b _ _ (3 + length grammar + length line) at_question_count,
       )
 
-  encoding_read : JobWithin grammar line questions → job_of b ≡ Read (job_at b)
+  encoding_read : JobWithin grammar line questions → job_of b ≡ Ok (job_at b)
   encoding_read within = read_whole b (rw (← e) at within.whole) (size ∙ ap end_at (sym job_is))
 
   encoding_parts : (job : Job) → job ≡ job_at b → (grammar_part b job ≡ grammar) × (line_part b job ≡ line) × (questions_part b job ≡ questions)
@@ -161,7 +161,7 @@ module _ (b grammar line : List ℕ) (questions : List Span) (e : b ≡ encode_j
 -- bytes are read as a job exactly when they are the encoding of some grammar bytes, a line and questions, within the limits
 pub job_iff :
     (b : List ℕ) → AreBytes b →
-    ((job : Job) × (job_of b ≡ Read job)) ↔ ((grammar : List ℕ) × (line : List ℕ) × (questions : List Span) × JobWithin grammar line questions × (b ≡ encode_job grammar line questions))
+    ((job : Job) × (job_of b ≡ Ok job)) ↔ ((grammar : List ℕ) × (line : List ℕ) × (questions : List Span) × JobWithin grammar line questions × (b ≡ encode_job grammar line questions))
 job_iff b bytes = (
   λ r. let read = job_read b r.0 r.1 in
       let whole = read.whole ∙ ap end_at read.is in (
@@ -176,7 +176,7 @@ job_iff b bytes = (
 
 -- and what is read are those parts
 pub parts_read :
-    (b : List ℕ) (job : Job) (grammar line : List ℕ) (questions : List Span) → job_of b ≡ Read job → b ≡ encode_job grammar line questions →
+    (b : List ℕ) (job : Job) (grammar line : List ℕ) (questions : List Span) → job_of b ≡ Ok job → b ≡ encode_job grammar line questions →
     (grammar_part b job ≡ grammar) × (line_part b job ≡ line) × (questions_part b job ≡ questions)
 parts_read b job grammar line questions read encoded =
     encoding_parts b grammar line questions encoded job (job_read b job read).is

@@ -1,16 +1,17 @@
 -- How many pieces there are, and which stands where; the questions that bytes hold; a piece that is yielded.
+use Rattle.std.proofs.Common.{Err, Ok, Result}
+use Rattle.refusals.specs.declared.Refusal.{Refusal}
 use Prim.Native.Nat.{ℕ, zero, suc, ◌+◌, ◌-◌, ◌*◌, ◌/◌, ◌≤◌, ◌<◌}
 use mathlib.Core.Path.{◌≡◌, refl, sym, ◌∙◌, ap}
-use mathlib.Core.Bool.{Bool}
+use mathlib.Core.Bool.{Bool, false}
 use mathlib.Core.List.{List, [], ◌∷◌, ◌++◌, map}
-use native.Mathlib.Numerals.{add-one}
 use native.Mathlib.Nat.{zero-add, add-zero, add_assoc}
-use native.Mathlib.Decide.{dec_lt}
 use native.Mathlib.Omega.{arith}
 use lib.ListN.{length, get_or, take, drop, length-append, length-map, length-drop}
+use Rattle.std.proofs.lemmas.List.{get_or-take}
 use lib.Seq.{take_all, get_or-drop}
-use lib.Dec.{ltb}
-use borrow.Author.Tests.{lt-ltb, le-ltb}
+use lib.Dec.{ltb, leb, leb-suc-suc}
+use borrow.Author.Tests.{le-ltb}
 use Rattle.refusals.specs.Order.{reported}
 use Rattle.refusals.specs.Told.{Told, answered, refused, check_told}
 use Rattle.derivation.specs.FactList.{Span}
@@ -22,8 +23,6 @@ use Rattle.lines.specs.inner.Stored.{Stored}
 use Rattle.lines.proofs.WriteLaws.{stored_none}
 use Rattle.report.specs.declared.Piece.{Piece}
 use Rattle.report.specs.declared.job.Job.{Job}
-use Rattle.report.specs.declared.job.JobReading.{JobReading}
-use Rattle.report.specs.declared.job.JobReading.TheVariants.{Read, Refused}
 use Rattle.report.specs.Job.{job_of, questions_at, grammar_part, line_part, questions_from, questions_part, questions_of}
 use Rattle.report.specs.Printed.{lent_words, lent_depths, rounds_line, fact_lines, marks_line, tree_lines, unless_refused, answer_pieces, chart_pieces, job_pieces, pieces}
 use Rattle.report.specs.Yielded.{Yielded}
@@ -42,9 +41,9 @@ pub pieces_some : (input : List ℕ) → 0 < length (pieces input)
 unfolding pieces
 pieces_some input = go (job_of input)
   where
-    go : (r : JobReading) → 0 < length (job_pieces input r)
-    go (Refused refusal) = omega arith
-    go (Read job) = chart_some (grammar_part input job) (line_part input job) (questions_part input job)
+    go : (r : Result Job Refusal) → 0 < length (job_pieces input r)
+    go (Err refusal) = omega arith
+    go (Ok job) = chart_some (grammar_part input job) (line_part input job) (questions_part input job)
 
 -- the questions that stand in a row of bytes
 abbrev pub question_at : List ℕ → ℕ → Span
@@ -82,25 +81,29 @@ module _ (all : List (List ℕ)) (k : ℕ) {row : List ℕ} (more : Bool) (follo
   piece_none e = piece_stored [] e (stored_none row 0)
 
 -- past the only piece there is none
-pub none_after_one : (bytes : List ℕ) (k : ℕ) → 0 < k → get_or (bytes ∷ []) k [] ≡ []
+none_after_one : (bytes : List ℕ) (k : ℕ) → 0 < k → get_or (bytes ∷ []) k [] ≡ []
 none_after_one bytes zero h = absurd (omega arith)
 none_after_one bytes (suc k) h = refl
 
-ltb_suc : (a b : ℕ) → ltb (suc a) (suc b) ≡ ltb a b
-ltb_suc a b = go (dec_lt a b)
-  where
-    go : Dec (a < b) → ltb (suc a) (suc b) ≡ ltb a b
-    go (yes l) = lt-ltb (suc a) (suc b) (omega arith) ∙ sym (lt-ltb a b l)
-    go (no l) = le-ltb (suc a) (suc b) (omega arith) ∙ sym (le-ltb a b (omega arith))
+pub past_one : (bytes : List ℕ) (k : ℕ) {row : List ℕ} → 0 < k → Yielded (bytes ∷ []) k row row (record { length = 0; more = false })
+past_one bytes k h = piece_none (bytes ∷ []) k false (sym (le-ltb (suc k) 1 (omega arith))) (none_after_one bytes k h)
 
 -- the pieces of the answers
 module _ (g line bytes : List ℕ) where
   abbrev all : List (List ℕ)
   all = answer_pieces g line (questions_of bytes)
 
-  pub answers_more : (k : ℕ) → ltb k (length bytes / 3 + 1) ≡ ltb (suc k) (length all)
+  pub answers_more : (k : ℕ) → leb k (length bytes / 3) ≡ ltb (suc k) (length all)
   unfolding answer_pieces
-  answers_more k = rw (length-map (questions_of bytes) (tree_lines g line), questions_count bytes (length bytes / 3) 0, add-one) (sym (ltb_suc k (suc (length bytes / 3))))
+  answers_more k =
+      let n = length bytes / 3 in
+      rw (length-map (questions_of bytes) (tree_lines g line), questions_count bytes n 0) (sym (leb-suc-suc (suc k) (suc n) ∙ leb-suc-suc k n))
+
+  -- three bytes from a place on are the question there
+  question_of_part : (at : ℕ) (part : List ℕ) → part ≡ take 3 (drop at bytes) → question_at part 0 ≡ question_at bytes at
+  question_of_part at part e =
+      let same : (i : ℕ) → i < 3 → byte part i ≡ byte bytes (at + i) = λ i l. ap (λ (s : List ℕ). byte s i) e ∙ get_or-take 3 (drop at bytes) i 0 l ∙ get_or-drop at bytes i 0 in
+      rw (same 0 (omega arith), same 1 (omega arith), same 2 (omega arith), add-zero)
 
   pub first_answer : get_or all 0 [] ≡ rounds_line (grammar_given g) line ++ fact_lines (grammar_given g) line
   unfolding answer_pieces
@@ -110,19 +113,19 @@ module _ (g line bytes : List ℕ) where
   unfolding answer_pieces
   second_answer = refl
 
-  pub later_answer : (k : ℕ) → 2 ≤ k → k ≤ length bytes / 3 + 1 → get_or all k [] ≡ tree_lines g line (question_at bytes (3 * (k - 2)))
+  pub later_answer : (k : ℕ) (part : List ℕ) → 2 ≤ k → k - 2 < length bytes / 3 → part ≡ take 3 (drop (3 * (k - 2)) bytes) → get_or all k [] ≡ tree_lines g line (question_at part 0)
   unfolding answer_pieces
-  later_answer zero h l = absurd (omega arith)
-  later_answer (suc zero) h l = absurd (omega arith)
-  later_answer (suc (suc k)) h l =
-      let e : suc (suc k) - 2 ≡ k = omega arith in
-      rw e (question_part (tree_lines g line) bytes (length bytes / 3) 0 k (omega arith) ∙ rw zero-add)
+  later_answer zero part h l e = absurd (omega arith)
+  later_answer (suc zero) part h l e = absurd (omega arith)
+  later_answer (suc (suc k)) part h l e =
+      let n : suc (suc k) - 2 ≡ k = omega arith in
+      question_part (tree_lines g line) bytes (length bytes / 3) 0 k (omega arith) ∙ rw (zero-add, question_of_part (3 * k) part (rw n at e))
 
-  pub no_answer : (k : ℕ) → length bytes / 3 + 1 < k → get_or all k [] ≡ []
+  pub no_answer : (k : ℕ) → 2 ≤ k → length bytes / 3 ≤ k - 2 → get_or all k [] ≡ []
   unfolding answer_pieces
-  no_answer zero l = absurd (omega arith)
-  no_answer (suc zero) l = absurd (omega arith)
-  no_answer (suc (suc k)) l = question_none (tree_lines g line) bytes (length bytes / 3) 0 k (omega arith)
+  no_answer zero h l = absurd (omega arith)
+  no_answer (suc zero) h l = absurd (omega arith)
+  no_answer (suc (suc k)) h l = question_none (tree_lines g line) bytes (length bytes / 3) 0 k (omega arith)
 
 -- the questions' bytes of a job that was read stand at its end
 pub questions_read_lem : (input : List ℕ) (job : Job) → JobRead input job → (at : ℕ) → at ≡ questions_at job.grammar job.line → questions_of (take (length input - at) (drop at input)) ≡ questions_part input job
@@ -146,9 +149,9 @@ pub pieces_few : (input : List ℕ) → length (pieces input) ≤ 4098
 unfolding pieces
 pieces_few input = go (job_of input) refl
   where
-    go : (r : JobReading) → job_of input ≡ r → length (job_pieces input r) ≤ 4098
-    go (Refused refusal) e = omega arith
-    go (Read job) e =
+    go : (r : Result Job Refusal) → job_of input ≡ r → length (job_pieces input r) ≤ 4098
+    go (Err refusal) e = omega arith
+    go (Ok job) e =
         let read = job_read input job e in
         chart_few (grammar_part input job) (line_part input job) (questions_part input job) (omega (arith, read.whole, read.short, questions_count input job.questions (questions_at job.grammar job.line)))
 

@@ -1,18 +1,17 @@
 -- How a job's bytes are read: three sections, each after its count, and nothing after them.
-use Rattle.std.specs.Prelude.{ℕ, zero, suc, ◌+◌, ◌*◌, ◌/◌, cond, List, [], ◌∷◌, length, take, drop, ltb}
+use Rattle.refusals.specs.declared.Refusal.{Refusal}
+use Rattle.std.specs.Prelude.{ℕ, zero, suc, ◌+◌, ◌*◌, ◌/◌, cond, List, [], ◌∷◌, length, take, drop, ltb, Err, Ok, Result}
 use Rattle.refusals.specs.declared.Refusal.TheVariants.{JobBadlyFormed}
 use Rattle.derivation.specs.FactList.{Span}
 use Rattle.grammar.specs.Reading.{byte}
 use Rattle.report.specs.declared.job.Job.{Job}
-use Rattle.report.specs.declared.job.JobReading.{JobReading}
-use Rattle.report.specs.declared.job.JobReading.TheVariants.{Read, Refused}
 
 -- the job is badly formed, at an offset
-abbrev pub badly_formed : ℕ → JobReading
-badly_formed at = Refused (JobBadlyFormed at)
+abbrev pub badly_formed : ℕ → Result Job Refusal
+badly_formed at = Err (JobBadlyFormed at)
 
 -- the input ends early where it has fewer bytes than `end`; the place is its length
-abbrev pub unless_short : List ℕ → ℕ → JobReading → JobReading
+abbrev pub unless_short : List ℕ → ℕ → Result Job Refusal → Result Job Refusal
 unless_short input end go = cond (ltb (length input) end) (badly_formed (length input)) go
 
 -- where the line and the questions begin, after their counts, and where the questions end
@@ -36,31 +35,31 @@ abbrev pub question_count : List ℕ → ℕ → ℕ → ℕ
 question_count input grammar line = byte input (3 + grammar + line)
 
 -- nothing stands after the questions
-abbrev pub end_read : List ℕ → Job → JobReading
-end_read input job = cond (ltb (end_at job) (length input)) (badly_formed (end_at job)) (Read job)
+abbrev pub end_read : List ℕ → Job → Result Job Refusal
+end_read input job = cond (ltb (end_at job) (length input)) (badly_formed (end_at job)) (Ok job)
 
 -- the questions, three bytes each
-abbrev pub questions_read : List ℕ → Job → JobReading
+abbrev pub questions_read : List ℕ → Job → Result Job Refusal
 questions_read input job = unless_short input (end_at job) (end_read input job)
 
 -- the line, and the count of the questions
-abbrev pub line_read : List ℕ → ℕ → ℕ → JobReading
+abbrev pub line_read : List ℕ → ℕ → ℕ → Result Job Refusal
 line_read input grammar line =
     unless_short input (questions_at grammar line)
     (questions_read input (record { grammar = grammar; line = line; questions = question_count input grammar line }))
 
 -- the grammar bytes, and the count of the line
-abbrev pub grammar_read : List ℕ → ℕ → JobReading
+abbrev pub grammar_read : List ℕ → ℕ → Result Job Refusal
 grammar_read input grammar = unless_short input (line_at grammar) (line_read input grammar (line_count input grammar))
 
 -- at most 4,096 bytes, tested first; then the sections in their order
-unfoldable pub job_of : List ℕ → JobReading
+unfoldable pub job_of : List ℕ → Result Job Refusal
 job_of input = cond (ltb 4096 (length input)) (badly_formed 4096) (unless_short input 2 (grammar_read input (grammar_count input)))
 
 -- the job that was read; of a refused one nothing
-abbrev pub job_in : JobReading → Job
-job_in (Read job) = job
-job_in (Refused refusal) = record { grammar = 0; line = 0; questions = 0 }
+abbrev pub job_in : Result Job Refusal → Job
+job_in (Ok job) = job
+job_in (Err refusal) = record { grammar = 0; line = 0; questions = 0 }
 
 -- the three parts of a job that was read
 abbrev pub grammar_part : List ℕ → Job → List ℕ

@@ -1,7 +1,8 @@
 -- What the program prints, for every input: the lines, the pieces that they make, and the pieces put together.
-use Rattle.std.specs.Prelude.{ℕ, length, replicate, ltb, not}
+use Rattle.refusals.specs.declared.Refusal.{Refusal}
+use Rattle.std.specs.Prelude.{ℕ, length, replicate, ltb, not, Result}
 use mathlib.Core.List.{List, [], ◌∷◌, ◌++◌, map, flatten}
-use Rattle.refusals.specs.declared.Check.{Check}
+use Rattle.refusals.specs.Check.{Check}
 use Rattle.refusals.specs.declared.Row.{Row}
 use Rattle.refusals.specs.Told.{Told, answered, refused, check_told}
 use Rattle.refusals.specs.declared.Refusal.TheVariants.{TreeOfNoFact, TreeTooSmall}
@@ -20,9 +21,9 @@ use Rattle.chart.specs.Checks.{chart_checks}
 use Rattle.checks.specs.Question.{refuse_if}
 use Rattle.tree.specs.Bytes.{bytes}
 use Rattle.tree.specs.Checks.{tree_checks}
-use Rattle.report.specs.declared.job.JobReading.{JobReading}
 use Rattle.report.specs.Job.{job_of, job_in, grammar_part, line_part, questions_part}
 use Rattle.report.specs.Told.{job_told}
+use Rattle.report.specs.declared.job.Job.{Job}
 use Rattle.lines.specs.Lines.{numbered, rounds_and_facts, marks_of}
 
 -- the program lends 512 words, 16,384 depths and 4,096 tree bytes
@@ -93,7 +94,7 @@ module _ (g line : List ℕ) where
   chart_pieces questions = unless_refused (check_told (reported (chart_checks g line lent_words lent_depths))) (answer_pieces questions)
 
 -- the job's refusal as the only piece, or else what its chart leads to
-abbrev pub job_pieces : List ℕ → JobReading → List (List ℕ)
+abbrev pub job_pieces : List ℕ → Result Job Refusal → List (List ℕ)
 job_pieces input reading =
     let job = job_in reading in
     unless_refused (job_told reading) (chart_pieces (grammar_part input job) (line_part input job) (questions_part input job))

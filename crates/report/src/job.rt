@@ -1,5 +1,6 @@
 // Reads a job: the grammar, the line and the questions, each after its count.
-ghost use Rattle.std.specs.Prelude.{◌≡◌};
+ghost use Rattle.std.specs.Prelude.{◌≡◌, cond, ltb, Err, Ok};
+ghost use Rattle.refusals.specs.declared.Refusal.TheVariants.{JobBadlyFormed};
 ghost use Rattle.report.specs.Job.{job_of};
 
 use refusals::Refusal;
@@ -12,39 +13,36 @@ pub struct Job {
     pub questions: usize,
 }
 
-#[derive(Clone, Copy)]
-pub enum JobReading {
-    Read(Job),
-    Refused(Refusal),
+// A job of so many bytes ends early where a section ends past them.
+fn unless_short(length: usize, end: usize) -> Result<(), Refusal>
+    ensures { result ≡ cond (ltb length end) (Err (JobBadlyFormed length)) (Ok tt) }
+{
+    if length < end {
+        return Err(Refusal::JobBadlyFormed { at: length });
+    }
+    Ok(())
 }
 
-pub fn read_job(input: &[u8]) -> JobReading
+#[tactic(auto, unfolding(crate::specs::Job::job_of))]
+pub fn read_job(input: &[u8]) -> Result<Job, Refusal>
     ensures { result ≡ job_of input.now }
 {
     let length = input.len();
     if 4096 < length {
-        return JobReading::Refused(Refusal::JobBadlyFormed { at: 4096 });
+        return Err(Refusal::JobBadlyFormed { at: 4096 });
     }
-    if length < 2 {
-        return JobReading::Refused(Refusal::JobBadlyFormed { at: length });
-    }
-    let grammar = input[0] as usize + 256 * (input[1] as usize);
-    if length < 3 + grammar {
-        return JobReading::Refused(Refusal::JobBadlyFormed { at: length });
-    }
+    unless_short(length, 2)?;
+    let grammar = u16::from_le_bytes([input[0], input[1]]) as usize;
+    unless_short(length, 3 + grammar)?;
     let line = input[2 + grammar] as usize;
-    if length < 4 + grammar + line {
-        return JobReading::Refused(Refusal::JobBadlyFormed { at: length });
-    }
+    unless_short(length, 4 + grammar + line)?;
     let questions = input[3 + grammar + line] as usize;
     let end = 4 + grammar + line + 3 * questions;
-    if length < end {
-        return JobReading::Refused(Refusal::JobBadlyFormed { at: length });
-    }
+    unless_short(length, end)?;
     if end < length {
-        return JobReading::Refused(Refusal::JobBadlyFormed { at: end });
+        return Err(Refusal::JobBadlyFormed { at: end });
     }
-    JobReading::Read(Job {
+    Ok(Job {
         grammar,
         line,
         questions,

@@ -1,7 +1,7 @@
 // What the program prints of a job, piece by piece.
 #![tactic(auto)]
 
-ghost use Rattle.std.specs.Prelude.{◌≤◌, length, ◌∷◌, []};
+ghost use Rattle.std.specs.Prelude.{◌≡◌, ◌*◌, ◌/◌, ◌<◌, ◌≤◌, length, ◌∷◌, [], take, drop, MatchOption};
 ghost use Rattle.refusals.specs.Row.{row_of};
 ghost use Rattle.report.specs.Job.{questions_of};
 ghost use Rattle.report.specs.inner.Checked.{JobPasses};
@@ -13,12 +13,13 @@ mod sections; // sections.rt: writes the chart's lines, the marks, a question
 
 use chart::work::checked;
 use checks::Asked;
-use grammar::reading::{Reading, Sections};
-use job::{JobReading, read_job};
+use grammar::reading::Sections;
+use job::read_job;
+use lines::writing::Page;
 use refusals::Refusal;
 use sections::{write_chart, write_marked, write_tree};
 
-// How long a piece is, and whether another follows.
+// How long a piece is, and whether another follows, which its length does not say.
 #[derive(Clone, Copy)]
 pub struct Piece {
     pub length: usize,
@@ -36,10 +37,21 @@ fn refused_piece(refusal: Refusal, number: usize, out: &mut [u8]) -> Piece
             more: false,
         };
     }
+    let mut page = Page { row: out, at: 0 };
+    sections::refused_line(&mut page, refusal);
     Piece {
-        length: sections::refused_line(out, 0, refusal),
+        length: page.at,
         more: false,
     }
+}
+
+// Question `k` of bytes that hold three for each.
+fn question(questions: &[u8], k: usize) -> Option<&[u8]>
+    ensures { MatchOption result
+        (length questions.now / 3 ≤ k)
+        (λ q. (k < length questions.now / 3) × (q.now ≡ take 3 (drop (3 * k) questions.now))) }
+{
+    questions.chunks_exact(3).nth(k)
 }
 
 // A piece of the answers: the chart's, the marks', a question's.
@@ -56,32 +68,15 @@ fn answer_piece(
         (answer_pieces g.now line.now (questions_of questions.now)) number
         out.old out.new result }
 {
-    let count = questions.len() / 3;
-    let more = number < count + 1;
-    if number == 0 {
-        return Piece {
-            length: write_chart(g, s, line, out),
-            more,
-        };
-    }
-    if number == 1 {
-        return Piece {
-            length: write_marked(g, line, out),
-            more,
-        };
-    }
-    if count + 1 < number {
-        return Piece { length: 0, more };
-    }
-    let at = 3 * (number - 2);
-    let length = write_tree(
-        g,
-        line,
-        questions[at],
-        questions[at + 1],
-        questions[at + 2],
-        out,
-    );
+    let length = match number {
+        0 => write_chart(g, s, line, out),
+        1 => write_marked(g, line, out),
+        _ => match question(questions, number - 2) {
+            Some(asked) => write_tree(g, line, asked[0], asked[1], asked[2], out),
+            None => 0,
+        },
+    };
+    let more = number <= questions.len() / 3;
     Piece { length, more }
 }
 
@@ -93,19 +88,20 @@ fn job_piece(g: &[u8], line: &[u8], questions: &[u8], number: usize, out: &mut [
         out.old out.new result }
 {
     match checked(g, line, Asked::Nothing, 512, 16384) {
-        Reading::Refused(refusal) => refused_piece(refusal, number, out),
-        Reading::Accepted(s) => answer_piece(g, s, line, questions, number, out),
+        Err(refusal) => refused_piece(refusal, number, out),
+        Ok(s) => answer_piece(g, s, line, questions, number, out),
     }
 }
 
 // Writes piece `number` of what is printed for the input.
+// A longer row does as well (docs/CONTRACTS.md), so `out` is a slice, here and in what is called, and no array.
 pub fn write_piece(input: &[u8], number: usize, out: &mut [u8]) -> Piece
     requires { 475200 ≤ length out.old }
     ensures { Yielded (pieces input.now) number out.old out.new result }
 {
     match read_job(input) {
-        JobReading::Refused(refusal) => refused_piece(refusal, number, out),
-        JobReading::Read(job) => {
+        Err(refusal) => refused_piece(refusal, number, out),
+        Ok(job) => {
             let line_at = 3 + job.grammar;
             let line_end = line_at + job.line;
             let questions_at = line_end + 1;

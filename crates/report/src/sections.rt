@@ -3,26 +3,26 @@ ghost use Rattle.std.specs.Prelude.{◌++◌, ◌+◌, ◌≤◌, length};
 ghost use Rattle.refusals.specs.Row.{row_of};
 ghost use Rattle.grammar.specs.declared.reading.Sections.{Sections};
 ghost use Rattle.grammar.specs.Given.{grammar_given};
+ghost use Rattle.lines.specs.inner.Printed.{HasRoom, Printed};
 ghost use Rattle.lines.specs.inner.Stored.{Stored};
 ghost use Rattle.report.specs.inner.Checked.{JobPasses};
 ghost use Rattle.report.specs.Printed.{refused_line, rounds_line, fact_lines, marks_line, tree_lines};
 
-use chart::ChartAnswer;
 use grammar::reading::Sections;
-use lines::listing::{write_facts, write_marks, write_nodes};
-use lines::writing::{write_line, write_rounds};
-use refusals::{Refusal, row_of};
-use tree::TreeAnswer;
+use lines::writing::Page;
+use refusals::{Refusal, Row};
 
-// Writes a refusal's line.
-pub fn refused_line(out: &mut [u8], at: usize, refusal: Refusal) -> usize
-    requires { at + 64 ≤ length out.old }
-    ensures { Stored out.old at (refused_line (row_of refusal)) out.new result × (result ≤ at + 64) }
+// Prints a refusal's line.
+pub fn refused_line(page: &mut Page, refusal: Refusal)
+    requires { HasRoom page.old 64 }
+    ensures printed { Printed page.old (refused_line (row_of refusal)) page.new }
+    ensures short { page.new.at ≤ page.old.at + 64 }
 {
-    let row = row_of(refusal);
-    let numbers = [row.number as usize, row.place];
-    write_line(out, at, b"refused", &numbers)
+    let row = Row::from(refusal);
+    page.line(b"refused", &[row.number as usize, row.place]);
 }
+
+// Words, depths and nodes stand in the frame of the function that asks: one function that made them for all three would hand 36,864 bytes out by value.
 
 // Writes rounds and facts, and a line for each fact.
 pub fn write_chart(g: &[u8], s: Sections, line: &[u8], out: &mut [u8]) -> usize
@@ -35,11 +35,13 @@ pub fn write_chart(g: &[u8], s: Sections, line: &[u8], out: &mut [u8]) -> usize
     let mut words = [0; 512];
     let mut depths = [0; 16384];
     match chart::chart(g, line, &mut words, &mut depths) {
-        ChartAnswer::Refused(_) => 0,
-        ChartAnswer::Filled { rounds, facts } => {
+        Err(_) => 0,
+        Ok(answer) => {
             let width = line.len() + 1;
-            let at = write_rounds(out, rounds, facts);
-            write_facts(out, at, &depths, s.categories * width * width, width)
+            let mut page = Page { row: out, at: 0 };
+            page.rounds(answer.rounds, answer.facts);
+            page.facts(&depths[..s.categories * width * width], width);
+            page.at
         }
     }
 }
@@ -52,8 +54,11 @@ pub fn write_marked(g: &[u8], line: &[u8], out: &mut [u8]) -> usize
     let mut words = [0; 512];
     let mut depths = [0; 16384];
     let mut marked = [0; 63];
-    marks::marks(g, line, &mut words, &mut depths, &mut marked);
-    write_marks(out, &marked, line.len())
+    let _ = marks::marks(g, line, &mut words, &mut depths, &mut marked);
+    let answered = &marked[..line.len()];
+    let mut page = Page { row: out, at: 0 };
+    page.marks(answered);
+    page.at
 }
 
 // Writes a question's line, and its nodes or the refusal.
@@ -69,10 +74,11 @@ pub fn write_tree(g: &[u8], line: &[u8], category: u8, start: u8, end: u8, out: 
     let a = category as usize;
     let i = start as usize;
     let j = end as usize;
-    let question = [a, i, j];
-    let at = write_line(out, 0, b"tree", &question);
+    let mut page = Page { row: out, at: 0 };
+    page.line(b"tree", &[a, i, j]);
     match tree::tree(g, line, a, i, j, &mut words, &mut depths, &mut nodes) {
-        TreeAnswer::Refused(refusal) => refused_line(out, at, refusal),
-        TreeAnswer::Nodes { count } => write_nodes(out, at, &nodes, count),
+        Err(refusal) => refused_line(&mut page, refusal),
+        Ok(count) => page.nodes(&nodes[..4 * count]),
     }
+    page.at
 }

@@ -1,20 +1,21 @@
 -- Bytes written into a row: none, one after the other, and the four of a node.
-use Prim.Native.Nat.{ℕ, suc, ◌+◌, ◌*◌, ◌≤◌}
+use Prim.Native.Nat.{ℕ, ◌+◌, ◌*◌, ◌≤◌}
 use mathlib.Core.Path.{◌≡◌, refl, sym, ◌∙◌, ap}
 use mathlib.Core.List.{List, [], ◌∷◌, ◌++◌, append_assoc}
 use native.Mathlib.Nat.{add_assoc, add-zero}
 use native.Mathlib.Omega.{arith}
-use lib.ListN.{length, get_or, set, take, drop, length-append, length-take, length-drop, take-append-drop}
-use lib.Seq.{sets-eq, drop-drop, drop_at, take_at, length-take-le}
+use lib.ListN.{length, take, drop, length-append, length-take, length-drop, take-append-drop}
+use lib.Seq.{drop-drop, drop_at, take_at, length-take-le}
 use Rattle.derivation.specs.Node as derivation
 use Rattle.tree.specs.declared.node.Kind.{Kind}
 use Rattle.tree.specs.declared.node.Kind.TheVariants.{Token, Rule}
-use Rattle.tree.specs.Bytes.{kind_bytes, node_bytes, bytes, wrote}
+use Rattle.tree.specs.declared.node.Node.{Node}
+use Rattle.tree.specs.Bytes.{kind_bytes, bytes_of, node_bytes, bytes, wrote}
 
--- a kind's four bytes, one by one
-pub kind_four : (k : Kind) (i j : ℕ) → get_or (kind_bytes k i j) 0 0 ∷ get_or (kind_bytes k i j) 1 0 ∷ get_or (kind_bytes k i j) 2 0 ∷ get_or (kind_bytes k i j) 3 0 ∷ [] ≡ kind_bytes k i j
-kind_four (Token c) i j = refl
-kind_four (Rule p) i j = refl
+-- a node has four bytes
+kind_long : (k : Kind) (i j : ℕ) → length (kind_bytes k i j) ≡ 4
+kind_long (Token c) i j = refl
+kind_long (Rule p) i j = refl
 
 pub length_wrote : (row : List ℕ) (at : ℕ) (written : List ℕ) → at + length written ≤ length row → length (wrote row at written) ≡ length row
 unfolding wrote
@@ -24,14 +25,10 @@ pub wrote_none : (row : List ℕ) (at : ℕ) → wrote row at [] ≡ row
 unfolding wrote
 wrote_none row at = rw add-zero (take-append-drop at row)
 
--- four stores in a row
-pub wrote_four : (row : List ℕ) (at a b c d : ℕ) → at + 4 ≤ length row → set (set (set (set row at a) (at + 1) b) (at + 2) c) (at + 3) d ≡ wrote row at (a ∷ b ∷ c ∷ d ∷ [])
+-- the part of a row from a place on, of four bytes, is a node's
+pub wrote_node : (row : List ℕ) (at : ℕ) (node : Node) → take at row ++ (bytes_of node ++ drop 4 (drop at row)) ≡ wrote row at (bytes_of node)
 unfolding wrote
-wrote_four row at a b c d h =
-    let e₁ : at + 1 ≡ suc at = omega arith in
-    let e₂ : at + 2 ≡ suc (suc at) = omega arith in
-    let e₃ : at + 3 ≡ suc (suc (suc at)) = omega arith in
-    rw (e₁, e₂, e₃) (sets-eq (a ∷ b ∷ c ∷ d ∷ []) row at h ∙ append_assoc (take at row) (a ∷ b ∷ c ∷ d ∷ []) (drop (at + 4) row))
+wrote_node row at node = rw (kind_long node.kind node.start node.end, drop-drop 4 at row)
 
 -- what is written right after
 pub wrote_more : (row : List ℕ) (at : ℕ) (xs ys : List ℕ) → at + (length xs + length ys) ≤ length row → wrote (wrote row at xs) (at + length xs) ys ≡ wrote row at (xs ++ ys)

@@ -2,7 +2,7 @@
 use Prim.Native.Nat.{ℕ, suc, ◌+◌, ◌-◌, ◌*◌, ◌≤◌, ◌<◌}
 use mathlib.Core.Path.{◌≡◌, refl, subst}
 use mathlib.Core.Logic.{◌↔◌, ◌⊎◌, inl, inr, ⊎_elim}
-use mathlib.Core.Bool.{Bool, false, not, false≢true}
+use mathlib.Core.Bool.{Bool, false, not}
 use mathlib.Core.List.{List, [], ◌∷◌}
 use native.Mathlib.Nat.{le_trans, lt_of_lt_of_le, mul-le-mul_right}
 use native.Mathlib.Decide.{ℕ_discrete}
@@ -10,7 +10,7 @@ use native.Mathlib.Omega.{arith}
 use lib.Bits.{bit_and}
 use lib.ListN.{length, get_or}
 use lib.Dec.{eqb}
-use borrow.Author.Tests.{eqb-true, eqb-false, not-false}
+use borrow.Author.Tests.{eqb-true, not-false}
 use Rattle.positions.specs.Member.{Member}
 use Rattle.positions.specs.With.{With}
 use Rattle.positions.proofs.Members.{none_member}
@@ -18,10 +18,12 @@ use Rattle.positions.proofs.Taking.{Taken}
 use Rattle.derivation.specs.Grammar.{Grammar, Rule}
 use Rattle.derivation.specs.Tree.{Children, stop}
 use Rattle.derivation.specs.inner.Within.{ChildWithin, ChildrenWithin}
-use Rattle.derivation.proofs.Prefix.{within_then, within_token, within_category}
+use Rattle.derivation.proofs.Prefix.{within_then, within_category}
 use Rattle.checks.specs.Memory.{chart_size, depths_size}
 use Rattle.filling.proofs.RowLaws.{row_inside}
-use Rattle.tree.specs.inner.Kept.{row_at, RowsKept}
+use Rattle.tree.specs.declared.kept.Kept.{Kept}
+use Rattle.tree.specs.declared.kept.Span.{Span}
+use Rattle.tree.specs.inner.Kept.{row_kept, RowsKept}
 use Rattle.tree.specs.inner.Sets.{CategoryKnown, ClassBefore, MayServe}
 
 -- the places of a row and of a depth are in the memory
@@ -99,34 +101,15 @@ first_ends [] l v = absurd (omega arith)
 first_ends (c ∷ s) l v = let a = within_then v in (a.0, a.1)
 
 -- a rule's test, by what it finds
-module _ (line words : List ℕ) (rule : Rule) (A i j : ℕ) where
-  pub serve_other : (rule.left ≡ A → ⊥) → MayServe line words rule A i j false
-  serve_other n = record { passes = λ q. absurd (false≢true q); fails = λ q l. absurd (n l) }
-
-  pub serve_empty : rule.left ≡ A → length rule.right ≡ 0 → MayServe line words rule A i j (eqb i j)
-  serve_empty l z = record {
-    passes = λ q. (l, λ y. eqb-true i j q);
-    fails = λ q y G rows known h v. eqb-false i j q (none_within (subst (λ (s : List ℕ). ChildrenWithin G line h s i j) (nil_of rule.right z) v));
-  }
-    where
-      nil_of : (s : List ℕ) → length s ≡ 0 → s ≡ []
-      nil_of [] e = refl
-      nil_of (c ∷ s) e = absurd (omega arith)
-
-  module _ (l : rule.left ≡ A) (some : 0 < length rule.right) where
-    serve_first : (r : Bool) → (r ≡ false → (G : Grammar) → RowsKept G line words → CategoryKnown G (get_or rule.right 0 0) → (h e : ℕ) → ChildWithin G line h (get_or rule.right 0 0) i e → ⊥) →
-        MayServe line words rule A i j r
+module _ (k : Kept) (rule : Rule) (span : Span) where
+  module _ (l : rule.left ≡ span.category) (some : 0 < length rule.right) where
+    serve_first : (r : Bool) → (r ≡ false → (G : Grammar) → RowsKept G k.line.now k.words.now → CategoryKnown G (get_or rule.right 0 0) → (h e : ℕ) → ChildWithin G k.line.now h (get_or rule.right 0 0) span.start e → ⊥) →
+        MayServe k rule span r
     serve_first r n = record {
       passes = λ q. (l, λ z. absurd (omega arith));
       fails = λ q y G rows known h v. let a = first_ends rule.right some v in n q G rows (known some) h a.0 a.1;
     }
 
-    pub serve_row : 128 ≤ get_or rule.right 0 0 → i ≤ length line → MayServe line words rule A i j (not (eqb (row_at words (length line) (get_or rule.right 0 0 - 128) i) 0))
-    serve_row k a = serve_first _ (λ q G rows known h e v.
-        none_member e (subst (λ (x : ℕ). Member x e) (eqb-true _ 0 (not-false _ q)) ((rows _ i (known k) a e).1 (within_category k v).tree)))
-
-    pub serve_past : get_or rule.right 0 0 < 128 → length line ≤ i → MayServe line words rule A i j false
-    serve_past k a = serve_first false (λ q G rows known h e v. omega (arith, (within_token k v).0))
-
-    pub serve_token : get_or rule.right 0 0 < 128 → MayServe line words rule A i j (eqb (get_or line i 0) (get_or rule.right 0 0))
-    serve_token k = serve_first _ (λ q G rows known h e v. eqb-false _ _ q (within_token k v).1)
+    pub serve_row : 128 ≤ get_or rule.right 0 0 → span.start ≤ length k.line.now → MayServe k rule span (not (eqb (row_kept k (get_or rule.right 0 0 - 128) span.start) 0))
+    serve_row high a = serve_first _ (λ q G rows known h e v.
+        none_member e (subst (λ (x : ℕ). Member x e) (eqb-true _ 0 (not-false _ q)) ((rows _ span.start (known high) a e).1 (within_category high v).tree)))

@@ -1,11 +1,12 @@
 -- The outcome of the tree question, from what the checks, the filling and the showing gave.
+use Rattle.std.proofs.Common.{Err, Result}
+use Rattle.refusals.specs.Check.{nothing_wrong}
 use Prim.Native.Nat.{ℕ}
 use mathlib.Core.Path.{◌≡◌, refl, ap, ◌∙◌}
 use mathlib.Core.List.{List, [], ◌∷◌, ◌++◌}
 use native.Mathlib.Nat.{zero-add}
 use lib.ListN.{length, drop}
 use Rattle.refusals.specs.declared.Refusal.{Refusal}
-use Rattle.refusals.specs.declared.Check.TheVariants as check
 use Rattle.refusals.specs.Order.{early}
 use Rattle.refusals.specs.Told as told
 use Rattle.derivation.specs.Tree.{Tree}
@@ -21,8 +22,6 @@ use Rattle.grammar.specs.declared.reading.Sections.{Sections}
 use Rattle.grammar.specs.Value.{grammar_of}
 use Rattle.grammar.specs.Given.{grammar_given}
 use Rattle.filling.specs.Filled.{WorkFilled}
-use Rattle.tree.specs.declared.TreeAnswer.{TreeAnswer}
-use Rattle.tree.specs.declared.TreeAnswer.TheVariants as tree
 use Rattle.tree.specs.Bytes.{bytes, wrote}
 use Rattle.chart.proofs.CheckLaws.{Passes, grammar_is, early_passed}
 use Rattle.tree.specs.inner.Kept.{DepthsKept, RowsKept}
@@ -48,15 +47,15 @@ module _ {g line : List ℕ} {asked : Asked} {n m : ℕ} {s : Sections} (passes 
   filled_rows = rw (grammar_is passes) filled.word
 
 module _ (g line : List ℕ) (A i j : ℕ) (words depths out : List ℕ) where
-  pub tree_turned : (refusal : Refusal) → early (tree_checks g line A i j words depths) ≡ check.Refused refusal → TreeOutcome g line A i j words depths out (tree.Refused refusal) words depths out
+  pub tree_turned : (refusal : Refusal) → early (tree_checks g line A i j words depths) ≡ Err refusal → TreeOutcome g line A i j words depths out (Err refusal) words depths out
   tree_turned refusal e = outcome.turned_down {refusal = refusal} e refl refl refl refl
 
   module _ (s : Sections) (passes : Passes g line (Span A i j) (length words) (length depths) s) {words' depths' : List ℕ} (filled : WorkFilled (grammar_of g s) line words depths words' depths') where
     work_is : WorkFilled (grammar_given g) line words depths words' depths'
     work_is = rw (grammar_is passes) filled
 
-    passed : early (tree_checks g line A i j words depths) ≡ check.Passed
-    passed = early_passed words depths check.Passed check.Passed passes
+    passed : early (tree_checks g line A i j words depths) ≡ nothing_wrong
+    passed = early_passed words depths nothing_wrong nothing_wrong passes
 
     -- a fact's chosen tree, whose nodes are shown
     chosen : Fact (grammar_given g) line A i j → (t : Tree (grammar_given g) line A i j) × Chosen t × (shown (grammar_given g) line A i j ≡ preorder t)
@@ -64,7 +63,7 @@ module _ (g line : List ℕ) (A i j : ℕ) (words depths out : List ℕ) where
         let r = chosen_exists (grammar_given g) line (given_proper g s passes.read) (depth_exists (grammar_given g) line f).1 in
         (r.0, r.1, r.3)
 
-    pub tree_shown : (answer : TreeAnswer) (out' : List ℕ) → ShowOutcome (grammar_given g) line A i j out answer out' → TreeOutcome g line A i j words depths out answer words' depths' out'
+    pub tree_shown : (answer : Result ℕ Refusal) (out' : List ℕ) → ShowOutcome (grammar_given g) line A i j out answer out' → TreeOutcome g line A i j words depths out answer words' depths' out'
     tree_shown answer out' (shows.no_fact n q o) = outcome.no_fact passed n q work_is o
     tree_shown answer out' (shows.no_room f l q o) = let c = chosen f in outcome.no_room c.0 passed c.1 (rw c.2 at l) q work_is o
     tree_shown answer out' (shows.shows f l q o) =

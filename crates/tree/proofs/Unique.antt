@@ -1,4 +1,6 @@
 -- Where a contract of this crate is a relation, two outcomes that it allows are equal.
+use Rattle.std.proofs.Common.{Err, Ok, Result}
+use Rattle.refusals.specs.declared.Refusal.{Refusal}
 use Prim.Native.Nat.{ℕ, ◌<◌}
 use mathlib.Core.Path.{◌≡◌, sym, ◌∙◌, ap}
 use mathlib.Core.List.{List, [], ◌∷◌, ◌++◌}
@@ -13,8 +15,6 @@ use Rattle.derivation.specs.Choice.{Chosen}
 use Rattle.derivation.proofs.Choice.{chosen_unique}
 use Rattle.checks.proofs.Laws.{one_refusal, not_both}
 use Rattle.filling.proofs.Unique.{filled_unique}
-use Rattle.tree.specs.declared.TreeAnswer.{TreeAnswer}
-use Rattle.tree.specs.declared.TreeAnswer.TheVariants as tree
 use Rattle.tree.specs.inner.Counted.{Counted}
 use Rattle.tree.specs.Bytes.{bytes}
 use Rattle.tree.specs.Told.{tree_told}
@@ -31,11 +31,11 @@ counted_unique {total} {limit} {r} {q} x y = go (dec_lt limit r) (dec_lt limit q
     go (no l) (no k) = omega (arith, x.exact (omega arith), y.exact (omega arith))
 
 -- a count that is told is the answer's
-told_count : (answer : TreeAnswer) (count : ℕ) → tree_told answer ≡ told.answered (count ∷ []) → answer ≡ tree.Nodes count
-told_count (tree.Nodes n) count e = let z : n ≡ count = cc in ap tree.Nodes z
-told_count (tree.Refused refusal) count e = absurd (never e)
+told_count : (answer : Result ℕ Refusal) (count : ℕ) → tree_told answer ≡ told.answered (count ∷ []) → answer ≡ Ok count
+told_count (Ok n) count e = let z : n ≡ count = cc in ap Ok z
+told_count (Err refusal) count e = absurd (never e)
   where
-    never : tree_told (tree.Refused refusal) ≡ told.answered (count ∷ []) → ⊥
+    never : tree_told (Err refusal) ≡ told.answered (count ∷ []) → ⊥
     never k = let z : ◌≡◌ {A = ℕ} 0 1 = cc in omega arith
 
 -- two chosen trees of a fact have equally many bytes
@@ -43,10 +43,10 @@ same_bytes : {g : Grammar} {w : List ℕ} {A i j : ℕ} (t s : Tree g w A i j) �
 same_bytes t s c d = ap (λ (q : List NodeValue). length (bytes q)) (chosen_unique t s c d)
 
 -- the tree question has one outcome
-pub tree_outcome_unique : {g line : List ℕ} {A i j : ℕ} {words depths out : List ℕ} {a b : TreeAnswer} {words₁ depths₁ out₁ words₂ depths₂ out₂ : List ℕ} →
+pub tree_outcome_unique : {g line : List ℕ} {A i j : ℕ} {words depths out : List ℕ} {a b : (Result ℕ Refusal)} {words₁ depths₁ out₁ words₂ depths₂ out₂ : List ℕ} →
     TreeOutcome g line A i j words depths out a words₁ depths₁ out₁ → TreeOutcome g line A i j words depths out b words₂ depths₂ out₂ →
     (a ≡ b) × (words₁ ≡ words₂) × (depths₁ ≡ depths₂) × (out₁ ≡ out₂)
-tree_outcome_unique (turned_down e x p q r) (turned_down f y o t u) = (x ∙ ap tree.Refused (one_refusal e f) ∙ sym y, p ∙ sym o, q ∙ sym t, r ∙ sym u)
+tree_outcome_unique (turned_down e x p q r) (turned_down f y o t u) = (x ∙ ap Err (one_refusal e f) ∙ sym y, p ∙ sym o, q ∙ sym t, r ∙ sym u)
 tree_outcome_unique (turned_down e x p q r) (no_fact f n y w u) = absurd (not_both e f)
 tree_outcome_unique (turned_down e x p q r) (no_room _ f c l y w u) = absurd (not_both e f)
 tree_outcome_unique (turned_down e x p q r) (shows _ f c l y w u) = absurd (not_both e f)
@@ -64,4 +64,4 @@ tree_outcome_unique (shows t e c l x v r) (no_room s f d k y w u) = absurd (omeg
 tree_outcome_unique {words = words} {depths = depths} {out = out} {a = a} {b = b} (shows t e c l x v r) (shows s f d k y w u) =
     let z = filled_unique _ _ words depths v w in
     let same = chosen_unique t s c d in
-    (told_count a _ x ∙ ap (λ (q : List NodeValue). tree.Nodes (length q)) same ∙ sym (told_count b _ y), z.0, z.1, r ∙ ap (λ (q : List NodeValue). bytes q ++ drop (length (bytes q)) out) same ∙ sym u)
+    (told_count a _ x ∙ ap (λ (q : List NodeValue). Ok (length q)) same ∙ sym (told_count b _ y), z.0, z.1, r ∙ ap (λ (q : List NodeValue). bytes q ++ drop (length (bytes q)) out) same ∙ sym u)

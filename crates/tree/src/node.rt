@@ -41,14 +41,16 @@ pub fn token_node(class: u8, start: usize, end: usize) -> Node
     }
 }
 
-// The node's four bytes.
-pub fn bytes_of(node: Node) -> [u8; 4]
-    ensures { result ≡ bytes_of node }
-{
-    let kind = node.kind;
-    match kind {
-        Kind::Token(class) => [0, class, node.start, node.end],
-        Kind::Rule(number) => [1, number, node.start, node.end],
+// A node's four bytes.
+impl From<Node> for [u8; 4] {
+    ghost from_gives = { λ node bytes. bytes ≡ bytes_of node };
+
+    fn from(node: Node) -> [u8; 4] {
+        let (kind, number) = match node.kind {
+            Kind::Token(class) => (0, class),
+            Kind::Rule(number) => (1, number),
+        };
+        [kind, number, node.start, node.end]
     }
 }
 
@@ -57,10 +59,7 @@ pub fn put_node(out: &mut [u8], at: usize, node: Node) -> usize
     requires { at + 4 ≤ length out.old }
     ensures { (result ≡ at + 4) × (out.new ≡ wrote out.old at (bytes_of node)) }
 {
-    let bytes = bytes_of(node);
-    out[at] = bytes[0];
-    out[at + 1] = bytes[1];
-    out[at + 2] = bytes[2];
-    out[at + 3] = bytes[3];
+    let bytes: [u8; 4] = node.into();
+    out[at..at + 4].copy_from_slice(&bytes);
     at + 4
 }

@@ -1,53 +1,35 @@
 // The nodes of a tree, written in preorder, children left to right.
 ghost use Rattle.std.specs.Prelude.{◌≡◌, ◌+◌, ◌≤◌, length};
-ghost use Rattle.derivation.specs.computed.Shown.{shown};
-ghost use Rattle.grammar.specs.Given.{grammar_given};
 ghost use Rattle.tree.specs.Bytes.{bytes, wrote};
-ghost use Rattle.tree.specs.inner.Searchable.{Searchable, NodeAt};
+ghost use Rattle.tree.specs.inner.Searchable.{Ready, nodes_of};
 
-use super::division::depth_at;
+use super::kept::Span;
 use super::node::{put_node, rule_node, token_node};
-use super::search::search;
-use grammar::rules::rule_symbols;
+use super::search::Search;
 
-// Writes the nodes of (A, i, j), a fact of this depth, from a place on; the place after them. The depth falls at each call.
-pub fn write(
-    g: &[u8],
-    starts: &[usize; 128],
-    line: &[u8],
-    words: &[u64],
-    depths: &[u16],
-    category: usize,
-    start: usize,
-    end: usize,
-    depth: u16,
-    out: &mut [u8],
-    at: usize,
-) -> usize
-    requires { Searchable (grammar_given g.now) g.now starts.now line.now words.now depths.now
-        × NodeAt (grammar_given g.now) line.now category start end depth
-        × (at + length (bytes (shown (grammar_given g.now) line.now category start end)) ≤ length out.old) }
-    ensures { (result ≡ at + length (bytes (shown (grammar_given g.now) line.now category start end)))
-        × (out.new ≡ wrote out.old at
-        (bytes (shown (grammar_given g.now) line.now category start end))) }
+// The row and a place in it are handed on from call to call: what stands before the place stays, and a struct of both would say no more.
+// Writes the nodes of a fact from a place on; the place after them. The fact's depth falls at each call.
+pub fn write(search: &Search, span: Span, out: &mut [u8], at: usize) -> usize
+    requires ready { Ready search.now span }
+    requires room { at + length (bytes (nodes_of search.now span)) ≤ length out.old }
+    ensures place { result ≡ at + length (bytes (nodes_of search.now span)) }
+    ensures nodes { out.new ≡ wrote out.old at (bytes (nodes_of search.now span)) }
 {
-    let found = search(g, starts, line, words, depths, category, start, end, depth);
-    let rule = found.rule;
-    let symbols = rule_symbols(g, starts[rule]);
-    let mut place = put_node(out, at, rule_node(rule, start, end));
-    let mut d = 0;
-    while d < symbols.len() {
-        let symbol = symbols[d];
-        let m = found.ends[d];
-        let e = found.ends[d + 1];
+    let found = search.node(span);
+    let mut place = put_node(out, at, rule_node(found.rule, span.start, span.end));
+    for (d, &symbol) in found.symbols.iter().enumerate() {
+        let start = found.ends[d];
+        let end = found.ends[d + 1];
         if symbol < 128 {
-            place = put_node(out, place, token_node(symbol, m, e));
+            place = put_node(out, place, token_node(symbol, start, end));
         } else {
-            let b = symbol as usize - 128;
-            let deep = depth_at(depths, line.len(), b, m, e);
-            place = write(g, starts, line, words, depths, b, m, e, deep, out, place);
+            let child = Span {
+                category: symbol as usize - 128,
+                start,
+                end,
+            };
+            place = write(search, child, out, place);
         }
-        d += 1;
     }
     place
 }

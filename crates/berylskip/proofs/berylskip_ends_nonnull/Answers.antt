@@ -4,5 +4,5 @@ use Rattle.chart.specs.Told.{ends_told}
 use Rattle.berylskip.proofs.Handing.{hands_refusal}
 use Rattle.berylskip.proofs.berylskip_ends_nonnull.Goals as goal
 
-pub returns-in-Refused : goal.returns-in-Refused
-returns-in-Refused c = hands_refusal _ c.ends.ensures _ (ap ends_told c.in-Refused.is) c.refuse.ensures
+pub returns-in-Err : goal.returns-in-Err
+returns-in-Err c = hands_refusal _ c.ends.ensures _ (ap ends_told c.in-Err.is) c.refuse.ensures

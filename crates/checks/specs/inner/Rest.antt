@@ -1,6 +1,6 @@
 -- What is left to check of a question once its grammar is read: the line, the question's numbers, the work memory, in this order.
 use Rattle.std.specs.Prelude.{ℕ, List, length}
-use Rattle.refusals.specs.declared.Check.{Check}
+use Rattle.refusals.specs.Check.{Check}
 use Rattle.refusals.specs.Order.{and_then}
 use Rattle.checks.specs.declared.Asked.{Asked}
 use Rattle.checks.specs.Line.{line_check}

@@ -1,15 +1,13 @@
 -- Where a rule's symbols can end, over what a chart holds.
-use Rattle.std.specs.Prelude.{ℕ, ◌+◌, ◌-◌, ◌*◌, ◌^◌, ◌≤◌, ◌<◌, ◌≡◌, ◌↔◌, ◌⊎◌, List, length, get_or}
+use Rattle.std.specs.Prelude.{ℕ, ◌+◌, ◌-◌, ◌*◌, ◌≤◌, ◌<◌, ◌≡◌, ◌↔◌, ◌⊎◌, List, length, get_or}
 use Rattle.positions.specs.Member.{Member}
 use Rattle.derivation.specs.Grammar.{Grammar}
 use Rattle.derivation.specs.inner.Within.{ChildrenWithin}
 use Rattle.filling.specs.inner.Places.{Places}
 use Rattle.filling.specs.inner.Holds.{HoldsAfter}
 
--- the rows of each category among the symbols are in the words, and a shift loses no place
-pub record Room (symbols words places : List ℕ) (width : ℕ) : Type 0 where
-  pub narrow : width ≤ 64
-  pub small : (c : ℕ) → get_or places c 0 < 2 ^ 63
+-- the rows of each category among the symbols are in the words
+pub record Room (symbols words : List ℕ) (width : ℕ) : Type 0 where
   pub rows : (d : ℕ) → d < length symbols → 128 ≤ get_or symbols d 0 → (get_or symbols d 0 - 128) * width + width ≤ length words
 
 -- the words, the places and the symbols are those of a grammar G and a line, within height h

@@ -1,17 +1,16 @@
 -- What the records are read from: accepted bytes, a line of theirs, and words that hold every fact.
-use Rattle.std.specs.Prelude.{ℕ, ◌+◌, ◌*◌, ◌≤◌, ◌<◌, ◌≡◌, ◌↔◌, List, length, get_or}
+use Rattle.std.specs.Prelude.{ℕ, ◌+◌, ◌*◌, ◌≤◌, ◌<◌, ◌≡◌, ◌↔◌, List, length, get_or, Ok}
 use Rattle.positions.specs.Member.{Member}
 use Rattle.derivation.specs.Fact.{Fact}
 use Rattle.checks.specs.Line.{IsLine}
 use Rattle.checks.specs.Memory.{chart_size}
-use Rattle.grammar.specs.declared.reading.Reading.TheVariants.{Accepted}
 use Rattle.grammar.specs.Reading.{read_of}
 use Rattle.grammar.specs.Value.{Found}
 use Rattle.grammar.specs.Given.{sections_given, grammar_given}
 
 -- word A×(n+1)+i has bit j set exactly for fact (A, i, j)
 pub record Charted (g line words : List ℕ) : Type 0 where
-  pub read : read_of g ≡ Accepted (sections_given g)
+  pub read : read_of g ≡ Ok (sections_given g)
   pub is_line : IsLine (sections_given g).classes line
   pub room : chart_size (sections_given g).categories (length line) ≤ length words
   pub word :
@@ -22,7 +21,3 @@ pub record Charted (g line words : List ℕ) : Type 0 where
 pub record RuleStands (g : List ℕ) (p at : ℕ) : Type 0 where
   pub below : p < (sections_given g).rules
   pub found : Found g (sections_given g) p at
-
--- some rule does
-abbrev pub Standing : List ℕ → ℕ → Type 0
-Standing g at = (p : ℕ) × RuleStands g p at

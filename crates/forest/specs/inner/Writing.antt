@@ -1,19 +1,29 @@
--- The records as they are written, one after the other.
-use Rattle.std.specs.Prelude.{ℕ, ◌≤◌, List, map, length}
+-- The records as they are written, at the front of a row.
+use Rattle.std.specs.Prelude.{ℕ, suc, ◌≡◌, List, ◌++◌, map, length, drop}
+use Rattle.derivation.specs.computed.Forest.{forest}
 use Rattle.grammar.specs.Given.{grammar_given}
 use Rattle.forest.specs.declared.Branch.{Branch}
-use Rattle.forest.specs.declared.Cursor.{Cursor}
+use Rattle.forest.specs.declared.place.Chart.{Chart}
 use Rattle.forest.specs.Record.{record_of}
-use Rattle.forest.specs.inner.Charted.{Charted}
-use Rattle.forest.specs.inner.Rest.{records}
-use Rattle.forest.specs.inner.Cursor.{branch_of, Stood}
+use Rattle.forest.specs.inner.Parts.{middle_part, start_part, place_part, rule_part}
 
--- the cursor's record and all after it
-abbrev pub written_from : List ℕ → List ℕ → Cursor → List Branch
-written_from g line c = map record_of (records (grammar_given g) line (branch_of c.branch))
+-- the rows of all records, and those of a rule p, its symbol d (counted from 0), a start i and a middle m
+abbrev pub all_rows : Chart → List Branch
+all_rows chart = map record_of (forest (grammar_given chart.g.now) chart.line.now)
 
--- there are n records from the cursor's on
-pub record Writes (g line words : List ℕ) (c : Cursor) (n : ℕ) : Type 0 where
-  pub charted : Charted g line words
-  pub stood : Stood g line c
-  pub enough : n ≤ length (records (grammar_given g) line (branch_of c.branch))
+abbrev pub rule_rows : Chart → ℕ → List Branch
+rule_rows chart p = map record_of (rule_part (grammar_given chart.g.now) chart.line.now p)
+
+abbrev pub place_rows : Chart → ℕ → ℕ → List Branch
+place_rows chart p d = map record_of (place_part (grammar_given chart.g.now) chart.line.now p (suc d))
+
+abbrev pub start_rows : Chart → ℕ → ℕ → ℕ → List Branch
+start_rows chart p d i = map record_of (start_part (grammar_given chart.g.now) chart.line.now p (suc d) i)
+
+abbrev pub middle_rows : Chart → ℕ → ℕ → ℕ → ℕ → List Branch
+middle_rows chart p d i m = map record_of (middle_part (grammar_given chart.g.now) chart.line.now p (suc d) i m)
+
+-- l is written at the front of the rows, and the others are as before
+pub record Front (l rows rows' : List Branch) (written : ℕ) : Type 0 where
+  pub count : written ≡ length l
+  pub laid : rows' ≡ l ++ drop (length l) rows

@@ -1,9 +1,7 @@
 -- The symbols of a rule as one word, by which the rules of a left category are told apart.
-use Rattle.std.specs.Prelude.{ℕ, ◌+◌, ◌*◌, ◌%◌, List, [], ◌∷◌}
-use Rattle.grammar.specs.declared.reading.Pass.{Pass}
-use Rattle.grammar.specs.declared.reading.Pass.TheVariants.{To, Stop}
-use Rattle.grammar.specs.declared.reading.RulePass.{RulePass}
-use Rattle.grammar.specs.declared.reading.RulePass.TheVariants as rule
+use Rattle.refusals.specs.declared.Refusal.{Refusal}
+use Rattle.grammar.specs.declared.reading.PassedRule.{PassedRule}
+use Rattle.std.specs.Prelude.{ℕ, ◌+◌, ◌*◌, ◌%◌, List, [], ◌∷◌, Err, Ok, Result}
 
 -- each symbol and 1 as a digit of base 256, after those of `word`
 unfoldable pub word_from : ℕ → List ℕ → ℕ
@@ -18,6 +16,6 @@ abbrev pub chain_of : ℕ → ℕ → ℕ
 chain_of left word = left * 37 + word % 37
 
 -- a rule that was passed over, with its symbols as one word
-abbrev pub with_word : Pass → ℕ → RulePass
-with_word (To next) word = rule.To next word
-with_word (Stop refusal) word = rule.Stop refusal
+abbrev pub with_word : Result ℕ Refusal → ℕ → Result PassedRule Refusal
+with_word (Ok next) word = Ok (record { next = next; word = word })
+with_word (Err refusal) word = Err refusal

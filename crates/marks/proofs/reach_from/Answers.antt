@@ -1,4 +1,4 @@
--- `marks::reach_from`: a turn sees one category more, and the last turn has seen them all.
+-- A turn sees one category more, and the last turn has seen them all.
 use Rattle.std.proofs.Common.{rules, arith, ◌≡◌, sym, ◌∙◌, length}
 use Rattle.grammar.specs.Value.{grammar_of}
 use Rattle.grammar.proofs.Encoded.{category_count_lem}
@@ -11,15 +11,13 @@ loop-a-preserved c =
     let a = c.args in
     let G = grammar_of a.g.now a.s in
     let l = c.loop-a in
-    let flag = c.category_flag.ensures.0 in (
-      search rules,
-      elim c.if-category_flag-eq1.branch [
-        | then-category_flag-eq1 w ↦ rw w.reach-is (reach_secret G a.words.now a.width a.start a.far l.a l.reach l.invariant.1 _ (sym flag ∙ w.if-category_flag-eq1.true) (search rules))
-        | else-category_flag-eq1 w ↦ rw w.reach-is (reach_plain G a.words.now a.width a.start a.far l.a l.reach l.invariant.1 (λ q. w.if-category_flag-eq1.false (flag ∙ q)))
-      ],
-    )
+    let flag = c.category_flag.ensures.0 in
+    elim c.if-category_flag-eq1.branch [
+      | then-category_flag-eq1 w ↦ rw w.reach-is (reach_secret G a.words.now a.width a.start a.far l.a l.reach l.invariant _ (sym flag ∙ w.if-category_flag-eq1.true) (search rules))
+      | else-category_flag-eq1 w ↦ rw w.reach-is (reach_plain G a.words.now a.width a.start a.far l.a l.reach l.invariant (λ q. w.if-category_flag-eq1.false (flag ∙ q)))
+    ]
 
 pub returns : goal.returns
 returns c =
     let full : c.loop-a.a ≡ length (grammar_of c.args.g.now c.args.s).categories = omega (arith, category_count_lem _ _ c.requires.0) in
-    rw full at c.loop-a.invariant.1
+    rw full at c.loop-a.invariant

@@ -1,0 +1,14 @@
+-- What holds after as many rounds as the depth; there are at most 2048.
+use Rattle.std.proofs.Common.{◌-◌, ◌≤◌}
+use Rattle.grammar.specs.Value.{grammar_of}
+use Rattle.filling.proofs.FillLaws.{Done}
+use Rattle.filling.proofs.rounds.fill.Given as goal
+
+abbrev pub invariant-loop-changed : goal.invariant-loop-changed
+invariant-loop-changed l = record {
+  few : l.depth ≤ 2049;
+  done : Done (grammar_of l.g l.s) l.line l.depth l.changed l.fn.words l.fn.depths l.words l.next l.depths;
+}
+
+abbrev pub decreases-loop-changed : goal.decreases-loop-changed
+decreases-loop-changed l = 2049 - l.depth
