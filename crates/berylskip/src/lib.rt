@@ -3,6 +3,8 @@
 
 ghost use Rattle.std.specs.Prelude.{◌≡◌, ◌∷◌, []};
 ghost use Rattle.refusals.specs.Row.{row_of};
+ghost use Rattle.marks.specs.Told.{marks_told};
+ghost use Rattle.tree.specs.Told.{tree_told};
 ghost use Rattle.forest.specs.Told.{forest_told};
 ghost use Rattle.berylskip.specs.Exported.{numbers, handed};
 ghost use Rattle.berylskip.specs.Questions.{ChartExported, EndsExported, MarksExported, TreeExported, ForestExported};
@@ -19,6 +21,24 @@ fn refuse(refusal: Refusal, place: &mut usize) -> u8
     let row = Row::from(refusal);
     *place = row.place;
     row.number
+}
+
+// The number, or the refusal, of an answer of one number, as each of the three questions tells it.
+fn hand_count(answer: Result<usize, Refusal>, count: &mut usize, place: &mut usize) -> u8
+    ensures marks { handed (marks_told answer) (count.old ∷ []) place.old
+        ≡ numbers result (count.new ∷ []) place.new }
+    ensures tree { handed (tree_told answer) (count.old ∷ []) place.old
+        ≡ numbers result (count.new ∷ []) place.new }
+    ensures forest { handed (forest_told answer) (count.old ∷ []) place.old
+        ≡ numbers result (count.new ∷ []) place.new }
+{
+    match answer {
+        Err(refusal) => refuse(refusal, place),
+        Ok(number) => {
+            *count = number;
+            0
+        }
+    }
 }
 
 // Chart: rounds, and how many facts there are.
@@ -92,13 +112,8 @@ pub extern "C" fn berylskip_marks_nonnull(
         words.old depths.old marks.old (secret.old ∷ []) place.old
         words.new depths.new marks.new (numbers result (secret.new ∷ []) place.new) }
 {
-    match marks::marks(g, line, words, depths, marks) {
-        Err(refusal) => refuse(refusal, place),
-        Ok(count) => {
-            *secret = count;
-            0
-        }
-    }
+    let answer = marks::marks(g, line, words, depths, marks);
+    hand_count(answer, secret, place)
 }
 
 // Tree of (A, i, j): four bytes for each node, and how many nodes there are.
@@ -119,27 +134,8 @@ pub extern "C" fn berylskip_tree_nonnull(
         words.old depths.old out.old (nodes.old ∷ []) place.old
         words.new depths.new out.new (numbers result (nodes.new ∷ []) place.new) }
 {
-    match tree(g, line, category, start, end, words, depths, out) {
-        Err(refusal) => refuse(refusal, place),
-        Ok(count) => {
-            *nodes = count;
-            0
-        }
-    }
-}
-
-// The number of records, or the refusal, of a forest's answer.
-fn hand_records(answer: Result<usize, Refusal>, records: &mut usize, place: &mut usize) -> u8
-    ensures { handed (forest_told answer) (records.old ∷ []) place.old
-        ≡ numbers result (records.new ∷ []) place.new }
-{
-    match answer {
-        Err(refusal) => refuse(refusal, place),
-        Ok(count) => {
-            *records = count;
-            0
-        }
-    }
+    let answer = tree(g, line, category, start, end, words, depths, out);
+    hand_count(answer, nodes, place)
 }
 
 // Forest: a record for each way in which a prefix of a rule derives, and how many records there are.
@@ -158,5 +154,5 @@ pub extern "C" fn berylskip_forest_nonnull(
         words.new depths.new rows.new (numbers result (records.new ∷ []) place.new) }
 {
     let answer = forest(g, line, words, depths, rows);
-    hand_records(answer, records, place)
+    hand_count(answer, records, place)
 }

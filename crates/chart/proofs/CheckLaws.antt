@@ -1,7 +1,7 @@
 -- What a question's checks report, from what the first of them find.
 use Rattle.std.proofs.Common.{Err, Ok, Result}
 use Prim.Native.Nat.{ℕ, ◌≤◌}
-use mathlib.Core.Path.{◌≡◌, refl, sym, ◌∙◌}
+use mathlib.Core.Path.{◌≡◌, refl}
 use mathlib.Core.List.{List}
 use lib.ListN.{length}
 use Rattle.refusals.specs.declared.Refusal.{Refusal}
@@ -49,18 +49,14 @@ pub record Passes (g line : List ℕ) (asked : Asked) (words numbers : ℕ) (s :
   pub read : read_of g ≡ Ok s
   pub rest : rest_check s.classes s.categories line asked words numbers ≡ nothing_wrong
 
-pub checked_accepted : (g line : List ℕ) (asked : Asked) (words numbers : ℕ) (s : Sections) → checked_of (read_of g) line asked words numbers ≡ Ok s → Passes g line asked words numbers s
-checked_accepted g line asked words numbers s e = go (read_of g) refl e
+pub passed : {g line : List ℕ} {asked : Asked} {words numbers : ℕ} {s : Sections} → checked_of (read_of g) line asked words numbers ≡ Ok s → Passes g line asked words numbers s
+passed {g = g} {line = line} {asked = asked} {words = words} {numbers = numbers} {s = s} e = go (read_of g) refl e
   where
     go : (r : Result Sections Refusal) → read_of g ≡ r → checked_of r line asked words numbers ≡ Ok s → Passes g line asked words numbers s
     go (Err x) q h = cc
     go (Ok x) q h =
         let p = accepted_passed s x (rest_check x.classes x.categories line asked words numbers) h in
         record { read = rw p.0 at q; rest = rw p.0 at p.1 }
-
--- the same of what a call answered
-pub passed : {g line : List ℕ} {asked : Asked} {words numbers : ℕ} {s : Sections} {answer : Result Sections Refusal} → answer ≡ checked_of (read_of g) line asked words numbers → answer ≡ Ok s → Passes g line asked words numbers s
-passed e f = checked_accepted _ _ _ _ _ _ (sym e ∙ f)
 
 module _ {g line : List ℕ} {asked : Asked} {words numbers : ℕ} {s : Sections} (passes : Passes g line asked words numbers s) where
   pub sections : Sectioned g s
@@ -76,8 +72,8 @@ module _ {g line : List ℕ} {asked : Asked} {words numbers : ℕ} {s : Sections
   memory_is = work_passed _ _ _ _ (both_passed (asked_check s.categories (length line) asked) _ (both_passed (line_check s.classes line) _ passes.rest).1).1
 
   -- so the memory can be filled
-  pub fillable : Sectioned g s × IsLine s.classes line × (chart_size s.categories (length line) ≤ words) × (depths_size s.categories (length line) ≤ numbers)
-  fillable = (sections, line_is, memory_is.0, memory_is.1)
+  pub fillable : IsLine s.classes line × (chart_size s.categories (length line) ≤ words) × (depths_size s.categories (length line) ≤ numbers)
+  fillable = (line_is, memory_is.0, memory_is.1)
 
   pub categories_few : s.categories ≤ 32
   categories_few = (whole g s sections).categories_high
@@ -97,7 +93,7 @@ checked_told g line asked words depths = go (checked_of (read_of g) line asked (
     go : (r : Result Sections Refusal) → checked_of (read_of g) line asked (length words) (length depths) ≡ r → reading_told r ≡ first_told g line asked words depths
     go (Err refusal) e = rw (checked_refused g line asked words depths nothing_wrong nothing_wrong refusal e)
     go (Ok s) e =
-        let passes = checked_accepted g line asked (length words) (length depths) s e in
+        let passes = passed {g = g} {line = line} {asked = asked} {words = length words} {numbers = length depths} {s = s} e in
         rw (early_passed words depths nothing_wrong nothing_wrong passes, passes.read)
 
 -- a question whose first checks pass has a grammar with every rule's left category in it

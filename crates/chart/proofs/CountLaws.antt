@@ -7,7 +7,8 @@ use mathlib.Core.List.{List}
 use native.Mathlib.Nat.{le_of_suc-le-suc}
 use native.Mathlib.Numerals.{add-one}
 use native.Mathlib.Omega.{arith}
-use lib.ListN.{length, get_or}
+use lib.ListN.{length, get_or, take}
+use Rattle.std.proofs.lemmas.List.{get_or-take, length-take-le}
 use Rattle.positions.specs.Member.{digit, Member}
 use Rattle.positions.specs.Count.{count_below}
 use Rattle.positions.proofs.Members.{no_digit, word_below}
@@ -26,6 +27,13 @@ pub count_total : (k x : ℕ) → count_below k x ≡ total (digit x) k
 unfolding count_below total
 count_total zero x = refl
 count_total (suc k) x = ap (λ (y : ℕ). y + digit x k) (count_total k x)
+
+-- the total of the first rows of a chart, which are a row of their own
+pub total_front : (words : List ℕ) (rows : ℕ) → rows ≤ length words →
+    total (λ q. count_below 64 (get_or (take rows words) q 0)) (length (take rows words)) ≡ total (λ q. count_below 64 (get_or words q 0)) rows
+total_front words rows l =
+    rw (length-take-le rows words l)
+    (total_same (λ q. count_below 64 (get_or (take rows words) q 0)) (λ q. count_below 64 (get_or words q 0)) rows (λ q h. ap (count_below 64) (get_or-take rows words q 0 h)))
 
 -- a digit that tells the truth of a test
 pub digit_test : (x j : ℕ) (b : Bool) → (Member x j → b ≡ true) → (b ≡ true → Member x j) → digit x j ≡ cond b 1 0

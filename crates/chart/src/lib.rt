@@ -17,7 +17,8 @@ pub struct ChartAnswer {
     pub facts: usize,
 }
 
-// What the question of the ends of (A, i) answers: the row, how many ends it shows, the smallest and the largest, positions::NO_END for both where there is none, as the document and the exported functions answer.
+// What the question of the ends of (A, i) answers: the row, how many ends it shows, the smallest and the largest.
+// Where there is none both are positions::NO_END, as the document and the exported functions answer.
 #[derive(Clone, Copy)]
 pub struct EndsAnswer {
     pub row: u64,
@@ -27,6 +28,7 @@ pub struct EndsAnswer {
 }
 
 // Fills the work memory with every fact of every category, and its depth.
+// Here and in every question grammar, line and memory are lent one by one, as C lends them.
 pub fn chart(
     g: &[u8],
     line: &[u8],
@@ -37,9 +39,10 @@ pub fn chart(
         words.old depths.old result
         words.new depths.new }
 {
-    let s = work::checked(g, line, Asked::Nothing, words.len(), depths.len())?;
-    let rounds = fill(g, s, line, words, depths);
-    let facts = work::count_ends(words, s.categories * (line.len() + 1));
+    let grammar = work::checked(g, line, Asked::Nothing, words.len(), depths.len())?;
+    let rounds = fill(grammar, line, words, depths);
+    let rows = grammar.view.sections.categories * (line.len() + 1);
+    let facts = work::count_ends(&words[..rows]);
     Ok(ChartAnswer { rounds, facts })
 }
 
@@ -57,8 +60,8 @@ pub fn ends(
         words.new depths.new }
 {
     let asked = Asked::Start { category, start };
-    let s = work::checked(g, line, asked, words.len(), depths.len())?;
-    fill(g, s, line, words, depths);
+    let grammar = work::checked(g, line, asked, words.len(), depths.len())?;
+    fill(grammar, line, words, depths);
     let row = words[category * (line.len() + 1) + start];
     let both = positions::both_ends(row);
     Ok(EndsAnswer {

@@ -98,6 +98,7 @@ fn check_work(categories: usize, n: usize, words: usize, numbers: usize) -> Resu
 }
 
 // What is left to check once a grammar of so many classes and categories is read: the line, the question's numbers, the work memory.
+// Counts and lengths are handed on one by one: a struct of them would be taken apart at once.
 pub fn check_rest(
     classes: usize,
     categories: usize,

@@ -3,7 +3,7 @@ use mathlib.Core.Path.{◌≡◌, refl, sym, ap, subst, ◌∙◌}
 use mathlib.Core.Logic.{◌⊎◌, inl, inr, ⊎_elim, ◌↔◌}
 use mathlib.Core.Bool.{Bool, true, false, false≢true}
 use mathlib.Core.List.{List}
-use Prim.Native.Nat.{ℕ, ◌+◌, ◌*◌, ◌≤◌, ◌<◌, zero-le, max}
+use Prim.Native.Nat.{ℕ, ◌+◌, ◌-◌, ◌*◌, ◌≤◌, ◌<◌, zero-le, max}
 use native.Mathlib.Nat.{mul-le-mul_right, zero-mul, suc-mul}
 use native.Mathlib.Numerals.{add-one}
 use native.Mathlib.Decide.{dec_lt}
@@ -11,10 +11,12 @@ use native.Mathlib.Omega.{arith}
 use lib.Bits.{bit_xor}
 use lib.ListN.{length, get_or, set, length-set}
 use lib.Seq.{get_or-set_same, get_or-set_other}
+use borrow.Rule.Slice.PartMut.{mid_of}
 use Rattle.positions.specs.Member.{Member}
 use Rattle.positions.proofs.Members.{none_member, xor_member, xor_some}
 use Rattle.filling.specs.inner.Commit.{New, Deepened, Committed, SomeNew, Ready}
 use Rattle.filling.specs.inner.Gained.{RowsCommitted, AllCommitted}
+use Rattle.filling.proofs.DepthLaws.{with_row, row_long, row_hit, row_miss}
 use Rattle.filling.proofs.RowLaws.{row_one}
 
 -- a row whose words are equal has the same new ends
@@ -30,6 +32,10 @@ ready_fewer to less width l words next depths r = record {
   narrow = λ q j h. r.narrow q j (omega arith);
   grows = λ q j h. r.grows q j (omega arith);
 }
+
+-- a row begins within the depths
+pub row_room : {to width : ℕ} {words next depths : List ℕ} → Ready to width words next depths → {q : ℕ} → q < to → q * width ≤ length depths
+row_room {to} {width} r {q} h = let fewer : q ≤ to = omega arith in omega (arith, mul-le-mul_right width fewer, r.depths_room)
 
 module _ (width depth : ℕ) (next : List ℕ) where
   -- rows that are those of `next` already have nothing new
@@ -134,23 +140,24 @@ module _ (width depth : ℕ) (next : List ℕ) where
       (words depths : List ℕ)
       (short : q < length words)
       (grows : (j : ℕ) → Member (get_or words q 0) j → Member (get_or next q 0) j)
-      (depths' : List ℕ)
-      (d : Deepened (q * width) (bit_xor (get_or next q 0) (get_or words q 0)) depth depths depths') where
+      (fits : q * width ≤ length depths)
+      (part : List ℕ)
+      (d : Deepened (bit_xor (get_or next q 0) (get_or words q 0)) depth (mid_of (q * width) (length depths - q * width) depths) part) where
     fresh : (j : ℕ) → Member (bit_xor (get_or next q 0) (get_or words q 0)) j ↔ New words next q j
     fresh j = let x = xor_member (get_or next q 0) (get_or words q 0) j (grows j) in
         (λ m. record { found = (x.0 m).0; fresh = (x.0 m).1 }, λ n. x.1 (n.found, n.fresh))
 
-    row_committed : Committed q (q + 1) width depth words next depths (set words q (get_or next q 0)) depths'
+    row_committed : Committed q (q + 1) width depth words next depths (set words q (get_or next q 0)) (with_row (q * width) depths part)
     row_committed = record {
       words_long = length-set words q (get_or next q 0);
       word = λ p l h. let s : p ≡ q = omega arith in rw s (get_or-set_same words q (get_or next q 0) 0 short);
       word_else = λ p h. get_or-set_other words q p (get_or next q 0) 0 (λ e. ⊎_elim (λ k. omega arith) (λ k. omega arith) h);
-      depths_long = d.long;
-      deep = λ p j l h n. let s : p ≡ q = omega arith in rw s (d.hit j ((fresh j).1 (rw s at n)));
-      deep_else = λ x n. d.miss x (λ j m. n q j (omega arith) (omega arith) ((fresh j).0 m));
+      depths_long = row_long (q * width) depths fits _ _ part d;
+      deep = λ p j l h n. let s : p ≡ q = omega arith in rw s (row_hit (q * width) depths fits _ _ part d j ((fresh j).1 (rw s at n)));
+      deep_else = λ x n. row_miss (q * width) depths fits _ _ part d x (λ j m. n q j (omega arith) (omega arith) ((fresh j).0 m));
     }
 
-    pub row_new : (get_or next q 0 ≡ get_or words q 0 → ⊥) → RowsCommitted q (q + 1) width depth words next depths (set words q (get_or next q 0)) depths' true
+    pub row_new : (get_or next q 0 ≡ get_or words q 0 → ⊥) → RowsCommitted q (q + 1) width depth words next depths (set words q (get_or next q 0)) (with_row (q * width) depths part) true
     row_new n = let x = xor_some (get_or next q 0) (get_or words q 0) n in record {
       committed = row_committed;
       gains = (λ t. (q, omega arith, omega arith, x.0, (fresh x.0).0 x.1), λ s. refl);

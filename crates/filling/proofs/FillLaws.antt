@@ -242,6 +242,21 @@ module _ (G : Grammar) (line : List ℕ) (changed : ℕ) (words depths words₀ 
     met = λ k e. absurd (omega arith);
   }
 
+  -- memory that was cleared first and then filled is filled
+  pub filled_cleared : (words' depths' : List ℕ) {r : ℕ} → chart_size N (length line) ≤ length words → depths_size N (length line) ≤ length depths →
+      Filled G line words₀ depths₀ words' depths' r → Filled G line words depths words' depths' r
+  filled_cleared words' depths' room deep_room x = record {
+    work = record {
+      words_long = x.work.words_long ∙ ap length cleared ∙ cleared_long _ words room;
+      word = x.work.word;
+      words_past = λ q l. x.work.words_past q l ∙ ap (λ (m : List ℕ). get_or m q 0) cleared ∙ cleared_past _ words q (rw count at l);
+      depths_long = x.work.depths_long ∙ ap length deep-cleared ∙ cleared_long _ depths deep_room;
+      depth = x.work.depth;
+      depths_past = λ q l. x.work.depths_past q l ∙ ap (λ (m : List ℕ). get_or m q 0) deep-cleared ∙ cleared_past _ depths q (rw count at l);
+    };
+    most = x.most;
+  }
+
 -- once a round adds nothing
 module _ {G : Grammar} {line : List ℕ} (given : Given G line) (r : ℕ) (words₀ depths₀ words next depths : List ℕ) (done : Done G line (suc r) 0 words₀ depths₀ words next depths) where
   still : NothingNew G line r

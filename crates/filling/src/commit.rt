@@ -1,16 +1,16 @@
 // The end of a round: what is new gets its depth, and the chart takes it up.
-ghost use Rattle.std.specs.Prelude.{ℕ, ◌+◌, ◌*◌, ◌≤◌, ◌<◌, length};
+ghost use Rattle.std.specs.Prelude.{ℕ, ◌*◌, ◌≤◌, ◌<◌, length};
 ghost use Rattle.positions.specs.Member.{Member};
 ghost use Rattle.filling.specs.inner.Commit.{Deepened, Ready};
 ghost use Rattle.filling.specs.inner.Gained.{RowsCommitted, AllCommitted};
 
-// The entries of the set's members, from base on, are the depth.
-pub fn write_depths(depths: &mut [u16], base: usize, set: u64, depth: u16)
-    requires { (j : ℕ) → Member set j → base + j < length depths.old }
-    ensures { Deepened base set depth depths.old depths.new }
+// The entries of the set's members are the depth.
+pub fn write_depths(depths: &mut [u16], set: u64, depth: u16)
+    requires { (j : ℕ) → Member set j → j < length depths.old }
+    ensures { Deepened set depth depths.old depths.new }
 {
     for j in positions::members_of(set) {
-        depths[base + j] = depth;
+        depths[j] = depth;
     }
 }
 
@@ -35,7 +35,7 @@ impl Round<'_> {
             let old = words[q];
             let new = self.next[q];
             if new != old {
-                write_depths(depths, q * self.width, new ^ old, self.depth);
+                write_depths(&mut depths[q * self.width..], new ^ old, self.depth);
                 words[q] = new;
                 gained = true;
             }

@@ -1,13 +1,13 @@
 // What is worked out once before the first round: where the line has each class, and where each rule stands with the categories on its right side.
 ghost use Rattle.std.specs.Prelude.{◌≡◌, ℕ, ◌<◌, length, get_or, map};
 ghost use Rattle.checks.specs.Line.{IsLine};
-ghost use Rattle.grammar.specs.Value.{Sectioned, grammar_of};
+ghost use Rattle.grammar.specs.Checked.{grammar_in};
 ghost use Rattle.grammar.specs.inner.Starts.{Starts};
 ghost use Rattle.filling.specs.inner.Places.{Places};
 ghost use Rattle.filling.specs.inner.Mask.{MaskOf, Masks};
 
-use grammar::reading::Sections;
-use grammar::rules::{rule_after, rule_symbols};
+use grammar::rules::RuleAt;
+use grammar::view::{Checked, View};
 
 // The positions of the tokens of each class.
 pub fn class_places(line: &[u8]) -> [u64; 128]
@@ -51,35 +51,29 @@ pub struct MaskedRule {
     pub mask: u64,
 }
 
-// A grammar's rules by their numbers, with its bytes and sections.
+// A grammar, and its rules by their numbers.
 #[derive(Drop)]
 pub struct Rules<'a> {
-    pub bytes: &'a [u8],
-    pub sections: Sections,
+    pub grammar: Checked<'a>,
     pub table: [MaskedRule; 128],
-    ghost sectioned: { Sectioned bytes.now sections },
-    ghost placed: { Starts bytes.now sections (map (λ r. r.at) table) },
+    ghost placed: { Starts grammar.view.bytes.now grammar.view.sections (map (λ r. r.at) table) },
 }
 
 impl<'a> Rules<'a> {
-    // The rules of read sections, in one walk; 0 for place and mask past the last rule.
-    pub fn new(bytes: &'a [u8], sections: Sections) -> Rules<'a>
-        requires { Sectioned bytes.now sections }
-        ensures bytes { result.bytes.now ≡ bytes.entry.now }
-        ensures sections { result.sections ≡ sections }
-        ensures masks { Masks (grammar_of bytes.entry.now sections) (map (λ r. r.mask) result.table) }
+    // A grammar's rules, in one walk; 0 for place and mask past the last rule.
+    pub fn new(grammar: Checked<'a>) -> Rules<'a>
+        ensures grammar { result.grammar ≡ grammar.entry }
+        ensures masks { Masks (grammar_in grammar.entry) (map (λ r. r.mask) result.table) }
     {
+        let View { bytes, sections } = grammar.view;
         let mut table = [MaskedRule { at: 0, mask: 0 }; 128];
         let mut at = sections.first;
-        for rule in &mut table[..sections.rules] {
-            let mask = mask_of(rule_symbols(bytes, at));
-            *rule = MaskedRule { at, mask };
-            at = rule_after(bytes, at);
+        for entry in &mut table[..sections.rules] {
+            let rule = RuleAt { bytes, at };
+            let mask = mask_of(rule.symbols());
+            *entry = MaskedRule { at, mask };
+            at = rule.after();
         }
-        Rules {
-            bytes,
-            sections,
-            table,
-        }
+        Rules { grammar, table }
     }
 }

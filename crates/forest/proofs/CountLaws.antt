@@ -16,7 +16,6 @@ use Rattle.positions.specs.Count.{count_below}
 use Rattle.positions.proofs.Members.{member?, no_digit, none_member}
 use Rattle.positions.proofs.Taking.{Taken}
 use Rattle.derivation.specs.Grammar.{Grammar, Proper, rule_at}
-use Rattle.grammar.specs.Given.{grammar_given}
 use Rattle.derivation.specs.Tree.{Child, Children}
 use Rattle.derivation.specs.computed.Round.{child, children}
 use Rattle.derivation.specs.computed.Facts.{facts}
@@ -173,5 +172,5 @@ forest_counted G line =
     ∙ total_same _ _ (length G.rules) (λ p l. rule_total G line p l)
 
 -- the records of rule p
-abbrev pub numbered_records : List ℕ → List ℕ → ℕ → ℕ
-numbered_records g line p = rule_count (grammar_given g) line (rule_at (grammar_given g) p).right
+abbrev pub numbered_records : Grammar → List ℕ → ℕ → ℕ
+numbered_records G line p = rule_count G line (rule_at G p).right

@@ -14,7 +14,7 @@ use Rattle.derivation.specs.computed.Forest.{is_branch, passing, forest}
 use Rattle.derivation.proofs.Forest.{is_branch_iff}
 use Rattle.derivation.proofs.Within.{child_inside}
 use Rattle.grammar.specs.Value.{standing}
-use Rattle.grammar.specs.Given.{grammar_given}
+use Rattle.grammar.specs.Checked.{grammar_in}
 use Rattle.forest.specs.declared.Branch.{Branch}
 use Rattle.forest.specs.declared.place.Chart.{Chart}
 use Rattle.forest.specs.declared.place.Place.{Place}
@@ -22,7 +22,8 @@ use Rattle.forest.specs.Record.{record_of}
 use Rattle.forest.specs.inner.Ends.{Reached, SymbolDerives, SymbolEnds, PrefixEnds}
 use Rattle.forest.specs.inner.Parts.{branch_at, place_part}
 use Rattle.forest.specs.inner.Writing.{all_rows, rule_rows, place_rows, start_rows, middle_rows, Front}
-use Rattle.forest.proofs.EndsLaws.{chart_of, rule_of, proper, rules_all, prefix_inside}
+use Rattle.forest.proofs.RuleLaws.{proper, rules_all}
+use Rattle.forest.proofs.EndsLaws.{rule_of, prefix_inside}
 use Rattle.forest.proofs.CountLaws.{branch_zero}
 use Rattle.forest.proofs.PartLaws.{gathered_none, gathered_next, gathered_fits, gathered_empty, gathered_first, gathered_map, members_gathered, flat_map_fits}
 
@@ -49,10 +50,10 @@ kept_one test x e = rw e
 
 module _ (place : Place) (i : ℕ) where
   abbrev G : Grammar
-  G = grammar_given place.chart.g.now
+  G = grammar_in place.chart.now.grammar
 
   abbrev line : List ℕ
-  line = place.chart.line.now
+  line = place.chart.now.line.now
 
   abbrev test : BranchValue → Bool
   test = is_branch G line (facts G line)
@@ -60,32 +61,32 @@ module _ (place : Place) (i : ℕ) where
   abbrev here : ℕ → ℕ → BranchValue
   here m j = branch_at place.rule (suc place.d) i m j
 
-  right_is : (standing place.chart.g.now place.at).right ≡ (rule_at G place.rule).right
+  right_is : (standing place.chart.now.grammar.view.bytes.now place.at).right ≡ (rule_at G place.rule).right
   right_is = ap (λ (r : Rule). r.right) (rule_of place).found.is
 
   before_is : suc place.d - 1 ≡ place.d
   before_is = omega arith
 
-  is_test : (m j : ℕ) → Reached place.chart place.at place.d i m → SymbolDerives place.chart place.at place.d m j → test (here m j) ≡ true
+  is_test : (m j : ℕ) → Reached place.chart.now place.at place.d i m → SymbolDerives place.chart.now place.at place.d m j → test (here m j) ≡ true
   is_test m j before symbol =
-      (is_branch_iff (proper (chart_of place)) (here m j)).1
+      (is_branch_iff (proper place.chart.now.grammar) (here m j)).1
       (record {
-        below = rw (rules_all (chart_of place)) place.below;
+        below = rw (rules_all place.chart.now.grammar) place.below;
         first = suc-le-suc zero-le;
         last = rw (← right_is) place.inside;
         before = rw (before_is, ← right_is) before;
         symbol = rw (before_is, ← right_is) symbol;
       })
 
-  test_is : (m j : ℕ) → test (here m j) ≡ true → Reached place.chart place.at place.d i m × SymbolDerives place.chart place.at place.d m j
+  test_is : (m j : ℕ) → test (here m j) ≡ true → Reached place.chart.now place.at place.d i m × SymbolDerives place.chart.now place.at place.d m j
   test_is m j e =
-      let b = (is_branch_iff (proper (chart_of place)) (here m j)).0 e in
+      let b = (is_branch_iff (proper place.chart.now.grammar) (here m j)).0 e in
       (rw (before_is, ← right_is) at b.before, rw (before_is, ← right_is) at b.symbol)
 
   -- the rows of a middle are those of its ends
   pub middle_rows_are :
-      (m ends : ℕ) → Reached place.chart place.at place.d i m → SymbolEnds place.chart place.at place.d m ends →
-      flat_map (one_row place.rule place.d i m) (member_list ends) ≡ middle_rows place.chart place.rule place.d i m
+      (m ends : ℕ) → Reached place.chart.now place.at place.d i m → SymbolEnds place.chart.now place.at place.d m ends →
+      flat_map (one_row place.rule place.d i m) (member_list ends) ≡ middle_rows place.chart.now place.rule place.d i m
   middle_rows_are m ends reached w =
       members_gathered ends (one_row place.rule place.d i m) (λ j. map record_of (kept test (here m j)))
       (λ j h. rw (add-one, kept_one test (here m j) (is_test m j reached ((w j).0 h))) refl)
@@ -95,52 +96,52 @@ module _ (place : Place) (i : ℕ) where
 
   -- as many as there are ends
   pub middle_counted :
-      (m ends : ℕ) → Reached place.chart place.at place.d i m → SymbolEnds place.chart place.at place.d m ends → ends < 2 ^ 64 →
-      length (middle_rows place.chart place.rule place.d i m) ≡ count_below 64 ends
+      (m ends : ℕ) → Reached place.chart.now place.at place.d i m → SymbolEnds place.chart.now place.at place.d m ends → ends < 2 ^ 64 →
+      length (middle_rows place.chart.now place.rule place.d i m) ≡ count_below 64 ends
   middle_counted m ends reached w fits =
       ap (λ (s : List Branch). length s) (sym (middle_rows_are m ends reached w)) ∙ one_rows place.rule place.d i m (member_list ends) ∙ length_list ends fits
 
   -- there is room for one more
   pub middle_room :
-      (m ends : ℕ) → Reached place.chart place.at place.d i m → SymbolEnds place.chart place.at place.d m ends →
-      (taken rest : List ℕ) (j n : ℕ) → taken ++ j ∷ rest ≡ member_list ends → length (middle_rows place.chart place.rule place.d i m) ≤ n →
+      (m ends : ℕ) → Reached place.chart.now place.at place.d i m → SymbolEnds place.chart.now place.at place.d m ends →
+      (taken rest : List ℕ) (j n : ℕ) → taken ++ j ∷ rest ≡ member_list ends → length (middle_rows place.chart.now place.rule place.d i m) ≤ n →
       length (flat_map (one_row place.rule place.d i m) taken) < n
   middle_room m ends reached w taken rest j n e l =
       omega (arith, flat_map_fits (one_row place.rule place.d i m) taken rest (member_list ends) j e, ap (λ (s : List Branch). length s) (middle_rows_are m ends reached w), l)
 
   -- those of a start are those of its middles
   pub start_rows_are :
-      (middles : ℕ) → PrefixEnds place.chart place.at place.d i middles →
-      flat_map (middle_rows place.chart place.rule place.d i) (member_list middles) ≡ start_rows place.chart place.rule place.d i
+      (middles : ℕ) → PrefixEnds place.chart.now place.at place.d i middles →
+      flat_map (middle_rows place.chart.now place.rule place.d i) (member_list middles) ≡ start_rows place.chart.now place.rule place.d i
   start_rows_are middles w =
-      members_gathered middles (middle_rows place.chart place.rule place.d i) (middle_rows place.chart place.rule place.d i)
+      members_gathered middles (middle_rows place.chart.now place.rule place.d i) (middle_rows place.chart.now place.rule place.d i)
       (λ m h. refl)
       (λ m n. ap (map record_of) (gathered_empty _ (suc (length line)) (λ j. kept_none test (here m j) (λ e. n ((w m).1 (test_is m j e).0)))))
-      (suc (length line)) (λ m h. omega (arith, prefix_inside place.chart place.at i place.d middles w m h))
+      (suc (length line)) (λ m h. omega (arith, prefix_inside place.chart.now place.at i place.d middles w m h))
       ∙ sym (gathered_map record_of (λ m. gathered (suc (length line)) (λ j. kept test (here m j))) (suc (length line)))
 
   pub start_room :
-      (middles : ℕ) → PrefixEnds place.chart place.at place.d i middles →
-      (taken rest : List ℕ) (m n : ℕ) → taken ++ m ∷ rest ≡ member_list middles → length (start_rows place.chart place.rule place.d i) ≤ n →
-      length (flat_map (middle_rows place.chart place.rule place.d i) taken) + length (middle_rows place.chart place.rule place.d i m) ≤ n
+      (middles : ℕ) → PrefixEnds place.chart.now place.at place.d i middles →
+      (taken rest : List ℕ) (m n : ℕ) → taken ++ m ∷ rest ≡ member_list middles → length (start_rows place.chart.now place.rule place.d i) ≤ n →
+      length (flat_map (middle_rows place.chart.now place.rule place.d i) taken) + length (middle_rows place.chart.now place.rule place.d i m) ≤ n
   start_room middles w taken rest m n e l =
-      omega (arith, flat_map_fits (middle_rows place.chart place.rule place.d i) taken rest (member_list middles) m e, ap (λ (s : List Branch). length s) (start_rows_are middles w), l)
+      omega (arith, flat_map_fits (middle_rows place.chart.now place.rule place.d i) taken rest (member_list middles) m e, ap (λ (s : List Branch). length s) (start_rows_are middles w), l)
 
 -- those of a place are those of its starts, those of a rule those of its places, and all are those of the rules
 pub place_rows_are : (chart : Chart) (p d : ℕ) → gathered (suc (length chart.line.now)) (start_rows chart p d) ≡ place_rows chart p d
 place_rows_are chart p d = sym (gathered_map record_of _ (suc (length chart.line.now)))
 
-pub rule_rows_are : (chart : Chart) (p : ℕ) → gathered (length (rule_at (grammar_given chart.g.now) p).right) (place_rows chart p) ≡ rule_rows chart p
+pub rule_rows_are : (chart : Chart) (p : ℕ) → gathered (length (rule_at (grammar_in chart.grammar) p).right) (place_rows chart p) ≡ rule_rows chart p
 rule_rows_are chart p =
-    let n = length (rule_at (grammar_given chart.g.now) p).right in
-    sym (gathered_map record_of (place_part (grammar_given chart.g.now) chart.line.now p) (suc n) ∙ gathered_first (λ d. map record_of (place_part (grammar_given chart.g.now) chart.line.now p d)) n (ap (map record_of) none))
+    let n = length (rule_at (grammar_in chart.grammar) p).right in
+    sym (gathered_map record_of (place_part (grammar_in chart.grammar) chart.line.now p) (suc n) ∙ gathered_first (λ d. map record_of (place_part (grammar_in chart.grammar) chart.line.now p d)) n (ap (map record_of) none))
   where
-    none : place_part (grammar_given chart.g.now) chart.line.now p 0 ≡ []
-    none = gathered_empty _ _ (λ i. gathered_empty _ _ (λ m. gathered_empty _ _ (λ j. kept_none _ _ (λ e. let z = branch_zero (grammar_given chart.g.now) chart.line.now p i m j in cc))))
+    none : place_part (grammar_in chart.grammar) chart.line.now p 0 ≡ []
+    none = gathered_empty _ _ (λ i. gathered_empty _ _ (λ m. gathered_empty _ _ (λ j. kept_none _ _ (λ e. let z = branch_zero (grammar_in chart.grammar) chart.line.now p i m j in cc))))
 
-pub all_rows_are : (chart : Chart) → gathered (length (grammar_given chart.g.now).rules) (rule_rows chart) ≡ all_rows chart
+pub all_rows_are : (chart : Chart) → gathered (length (grammar_in chart.grammar).rules) (rule_rows chart) ≡ all_rows chart
 unfolding forest passing
-all_rows_are chart = sym (gathered_map record_of _ (length (grammar_given chart.g.now).rules))
+all_rows_are chart = sym (gathered_map record_of _ (length (grammar_in chart.grammar).rules))
 
 pub front_none : (rows : List Branch) → Front [] rows rows 0
 front_none rows = record { count = refl; laid = refl }

@@ -1,22 +1,26 @@
--- The walk from rule to rule: each stands where the one before it ends.
-use Rattle.std.proofs.Common.{◌≡◌, ℕ, ◌+◌, ◌<◌, List, length, sym, ap, ◌∙◌, arith}
-use Rattle.grammar.specs.declared.reading.Sections.{Sections}
+-- The rules of a grammar where they stand, each where the one before it ends.
+use Rattle.std.proofs.Common.{◌≡◌, ℕ, ◌+◌, ◌≤◌, ◌<◌, length, sym, ap, ◌∙◌}
+use Rattle.derivation.specs.Grammar.{Proper}
+use Rattle.grammar.specs.declared.view.Checked.{Checked}
 use Rattle.grammar.specs.Value.{start_of, after}
-use Rattle.grammar.specs.Given.{sections_given, grammar_given}
-use Rattle.grammar.proofs.Accepted.{start_none, start_more}
-use Rattle.forest.specs.inner.Charted.{Charted, RuleStands}
-use Rattle.forest.proofs.EndsLaws.{rules_all, rule_found}
+use Rattle.grammar.specs.Checked.{grammar_in}
+use Rattle.grammar.proofs.Accepted.{whole, found, start_more}
+use Rattle.grammar.proofs.Encoded.{rule_count_lem, sections_proper}
+use Rattle.forest.specs.inner.Charted.{RuleStands}
 
-module _ {g line words : List ℕ} (chart : Charted g line words) {s : Sections} (e : s ≡ sections_given g) where
-  pub walk_begins : s.first ≡ start_of g 0 (sections_given g).first
-  walk_begins = ap (λ (s : Sections). s.first) e ∙ sym (start_none g (sections_given g).first)
+module _ (c : Checked) where
+  pub proper : Proper (grammar_in c)
+  proper = sections_proper _ _ c.sectioned
 
-  pub walk_all : s.rules ≡ length (grammar_given g).rules
-  walk_all = ap (λ (s : Sections). s.rules) e ∙ sym (rules_all chart)
+  pub rules_few : c.view.sections.rules ≤ 128
+  rules_few = (whole _ _ c.sectioned).rules_high
 
-  module _ (p at : ℕ) (place : at ≡ start_of g p (sections_given g).first) where
-    pub walk_here : p < s.rules → RuleStands g p at
-    walk_here l = rule_found chart p at (omega (arith, ap (λ (s : Sections). s.rules) e)) place
+  pub rules_all : length (grammar_in c).rules ≡ c.view.sections.rules
+  rules_all = rule_count_lem _ _ c.sectioned
 
-    pub walk_next : (next : ℕ) → next ≡ after g at → next ≡ start_of g (p + 1) (sections_given g).first
-    walk_next next n = n ∙ ap (after g) place ∙ sym (start_more g p (sections_given g).first)
+  module _ (p at : ℕ) (place : at ≡ start_of c.view.bytes.now p c.view.sections.first) where
+    pub rule_found : p < c.view.sections.rules → RuleStands c p at
+    rule_found l = record { below = l; found = rw place (found _ _ c.sectioned p l) }
+
+    pub rule_next : (next : ℕ) → next ≡ after c.view.bytes.now at → next ≡ start_of c.view.bytes.now (p + 1) c.view.sections.first
+    rule_next next n = n ∙ ap (after c.view.bytes.now) place ∙ sym (start_more c.view.bytes.now p c.view.sections.first)

@@ -25,7 +25,7 @@ pub struct Branch {
     pub end: u8,
 }
 
-// Writes the records (p, d, i, m, j) of the line, ascending, each once, into the lent row, and answers how many they are.
+// Writes the records (p, d, i, m, j) of the line, ascending, each once, into the lent row, and answers how many they are. What it takes comes one by one, as C lends it.
 pub fn forest(
     g: &[u8],
     line: &[u8],
@@ -37,12 +37,16 @@ pub fn forest(
         words.old depths.old rows.old result
         words.new depths.new rows.new }
 {
-    let s = checked(g, line, Asked::Nothing, words.len(), depths.len())?;
-    fill(g, s, line, words, depths);
-    let chart = Chart { g, line, words };
-    let count = chart.count_records(s);
+    let grammar = checked(g, line, Asked::Nothing, words.len(), depths.len())?;
+    fill(grammar, line, words, depths);
+    let chart = Chart {
+        grammar,
+        line,
+        words,
+    };
+    let count = chart.count_records();
     if rows.len() < count {
         return Err(Refusal::ForestTooSmall { needed: count });
     }
-    Ok(chart.write_records(s, rows))
+    Ok(chart.write_records(rows))
 }

@@ -251,10 +251,6 @@ module _ (g : List ℕ) (at : ℕ) (h : Stands g at) where
   unfolding standing
   length_is = sym (part_length g (byte g (at + 1)) (at + 2) h.inside)
 
-  pub symbol_is : (d : ℕ) → d < byte g (at + 1) → byte g (at + 2 + d) ≡ get_or (standing g at).right d 0
-  unfolding standing
-  symbol_is d l = sym (part_at g (byte g (at + 1)) (at + 2) d l)
-
   pub symbols_is : take (at + 2 + byte g (at + 1) - (at + 2)) (drop (at + 2) g) ≡ (standing g at).right
   unfolding standing
   symbols_is = let z : at + 2 + byte g (at + 1) - (at + 2) ≡ byte g (at + 1) = omega arith in rw z

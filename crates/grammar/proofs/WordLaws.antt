@@ -59,7 +59,7 @@ word_tells a b x y e =
 abbrev pub Fits : ℕ → ℕ → Type 0
 Fits word left = (word + 1) * 256 ^ left ≤ 256 ^ 8
 
-fits_next :
+pub fits_next :
     (word count k symbol : ℕ) → k < count → symbol < 255 → Fits word (count - k) →
     (word * 256 + (symbol + 1) < 2 ^ 64) × Fits (word * 256 + (symbol + 1)) (count - (k + 1))
 fits_next word count k symbol h s f =

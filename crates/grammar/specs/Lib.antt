@@ -8,4 +8,5 @@ pub mod Encoding
 pub mod Beginning
 pub mod Given
 pub mod View
+pub mod Checked
 pub mod inner

@@ -4,7 +4,8 @@ ghost use Rattle.grammar.specs.inner.Words.{chain_of};
 ghost use Rattle.grammar.specs.inner.Chains.{WordOnChain, Falling};
 
 // Three tables: the word of each rule, the entry after it, and the entry of each chain. An entry is 0 at a chain's end, and else one more
-// than a number. With one table of words and entries, or with entries as Option, 128 rules take more than twice the time without chains.
+// than a number. With one table of words and entries, or with entries as Option, 128 rules would take more than twice the time without chains
+// (docs/SPEED.md).
 #[derive(Drop)]
 pub struct Chains {
     words: [u64; 128],

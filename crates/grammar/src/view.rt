@@ -14,7 +14,7 @@ pub struct View<'a> {
     pub sections: Sections,
 }
 
-// The view of bytes with their counts and offsets.
+// The view of any bytes with any counts and offsets: docs/CONTRACTS.md names it with this clause, which a literal has not.
 pub fn view_of<'a>(g: &'a [u8], s: Sections) -> View<'a>
     ensures { result ≡ view_of g.entry s }
 {
@@ -61,15 +61,4 @@ impl<'a> Checked<'a> {
     {
         self.view.bytes[self.view.sections.flags + category]
     }
-}
-
-// Where each rule of read sections stands, by its number; 0 past the last rule.
-pub fn rule_starts_of(g: &[u8], s: Sections) -> [usize; 128]
-    requires { Sectioned g.now s }
-    ensures { Starts g.now s result }
-{
-    Checked {
-        view: view_of(g, s),
-    }
-    .rule_starts()
 }

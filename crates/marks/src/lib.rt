@@ -3,7 +3,7 @@
 
 ghost use Rattle.std.specs.Prelude.{◌*◌, ◌≤◌, ◌<◌, length};
 ghost use Rattle.checks.specs.Line.{IsLine};
-ghost use Rattle.grammar.specs.Value.{Sectioned, grammar_of};
+ghost use Rattle.grammar.specs.Checked.{grammar_in};
 ghost use Rattle.marks.specs.Marks.{MarksAre};
 ghost use Rattle.marks.specs.inner.Reach.{ChartHolds, RowReachIs, ReachIs};
 ghost use Rattle.marks.specs.Outcome.{MarksOutcome};
@@ -11,8 +11,7 @@ ghost use Rattle.marks.specs.Outcome.{MarksOutcome};
 use chart::work::checked;
 use checks::Asked;
 use filling::rounds::fill;
-use grammar::reading::Sections;
-use grammar::rules::{category_flag, class_flag};
+use grammar::view::Checked;
 use refusals::Refusal;
 
 // How far the ends of a row reach, or `far` where that is further.
@@ -26,13 +25,13 @@ fn reach_of(row: u64, far: usize) -> usize
 }
 
 // How far the spans of secret categories reach that begin at the start, or `far` where that is further.
-fn reach_from(g: &[u8], s: Sections, words: &[u64], width: usize, start: usize, far: usize) -> usize
-    requires { Sectioned g.now s × (s.categories * width ≤ length words.now) × (start < width) × (width ≤ 64) }
-    ensures { ReachIs (grammar_of g.now s) words.now width start far result }
+fn reach_from(grammar: Checked, words: &[u64], width: usize, start: usize, far: usize) -> usize
+    requires { (grammar.view.sections.categories * width ≤ length words.now) × (start < width) × (width ≤ 64) }
+    ensures { ReachIs (grammar_in grammar.entry) words.now width start far result }
 {
     let mut reach = far;
-    for a in 0..s.categories {
-        if category_flag(g, s, a) == 1 {
+    for a in 0..grammar.view.sections.categories {
+        if grammar.category_flag(a) == 1 {
             reach = reach_of(words[a * width + start], reach);
         }
     }
@@ -40,22 +39,21 @@ fn reach_from(g: &[u8], s: Sections, words: &[u64], width: usize, start: usize, 
 }
 
 // A byte for each token, 1 secret and 0 not; how many are 1.
-fn mark_tokens(g: &[u8], s: Sections, line: &[u8], words: &[u64], marks: &mut [u8]) -> usize
-    requires { Sectioned g.now s
-        × IsLine s.classes line.now
-        × ChartHolds (grammar_of g.now s) line.now words.now
+fn mark_tokens(grammar: Checked, line: &[u8], words: &[u64], marks: &mut [u8]) -> usize
+    requires { IsLine grammar.view.sections.classes line.now
+        × ChartHolds (grammar_in grammar) line.now words.now
         × (length line.now ≤ length marks.old) }
-    ensures { MarksAre (grammar_of g.now s) line.now marks.old marks.new result }
+    ensures { MarksAre (grammar_in grammar.entry) line.now marks.old marks.new result }
 {
     let width = line.len() + 1;
     let mut secret = 0;
     let mut reach = 0;
     for (token, class) in line.iter().enumerate() {
-        reach = reach_from(g, s, words, width, token, reach);
+        reach = reach_from(grammar, words, width, token, reach);
         let mark = if token < reach {
             1
         } else {
-            class_flag(g, s, *class as usize)
+            grammar.class_flag(*class as usize)
         };
         marks[token] = mark;
         secret += mark as usize;
@@ -63,7 +61,7 @@ fn mark_tokens(g: &[u8], s: Sections, line: &[u8], words: &[u64], marks: &mut [u
     secret
 }
 
-// Marks the secret tokens of a line, and answers how many there are.
+// Marks the secret tokens of a line, and answers how many there are. What it takes comes one by one, as C lends it.
 pub fn marks(
     g: &[u8],
     line: &[u8],
@@ -75,10 +73,10 @@ pub fn marks(
         words.old depths.old marks.old result
         words.new depths.new marks.new }
 {
-    let s = checked(g, line, Asked::Nothing, words.len(), depths.len())?;
-    fill(g, s, line, words, depths);
+    let grammar = checked(g, line, Asked::Nothing, words.len(), depths.len())?;
+    fill(grammar, line, words, depths);
     if marks.len() < line.len() {
         return Err(Refusal::MarksTooSmall { needed: line.len() });
     }
-    Ok(mark_tokens(g, s, line, words, marks))
+    Ok(mark_tokens(grammar, line, words, marks))
 }

@@ -6,7 +6,6 @@ pub mod Counts
 pub mod Extremes
 pub mod Taking
 pub mod Listed
-pub mod Chains
 pub mod Cuts
 pub mod Unions
 pub mod Unique

@@ -39,7 +39,7 @@ pub fn count(set: u64) -> u32
     u64::count_ones(set)
 }
 
-// The smallest position of the set, and 64 for the empty set.
+// The smallest position of the set, and 64 for the empty set: the number of trailing zeros, which `First` tells, and no None.
 #[tactic(auto, using(crate::proofs::Extremes::first_trailing))]
 pub fn first(set: u64) -> u32
     ensures { First set result }
@@ -113,7 +113,7 @@ pub fn both_ends(set: u64) -> Ends
     }
 }
 
-// The union of the rows base + m over the members m of the set, from ≤ m < width.
+// The union of the rows base + m over the members m of the set, from ≤ m < width, as `Union` says it of a chart's rows.
 pub fn union(set: u64, rows: &[u64], base: usize, from: usize, width: usize) -> u64
     requires { (width ≤ 64) × (base + width ≤ length rows.now) }
     ensures { Union set rows.now base from width result }
@@ -124,6 +124,7 @@ pub fn union(set: u64, rows: &[u64], base: usize, from: usize, width: usize) -> 
     let mut all = 0u64;
     let mut left = ((set >> from) << from) & (0xffff_ffff_ffff_ffff >> (64 - width));
     // The members that have the next seven positions beside them in the set: from such a one on, a run of members is taken at once.
+    // So the loop goes from run to run, and by no iterator over members; one over runs would be this loop in a struct, used here alone.
     let pairs = left & (left >> 1);
     let fours = pairs & (pairs >> 2);
     let runs = fours & (fours >> 4);

@@ -14,14 +14,14 @@ pub const PIECE: usize = 475200;
 // Room for a job, and for one byte more, so that a longer one is seen to be.
 pub const JOB: usize = 4097;
 
-// How many pieces were asked for, each of which was written, and whether another follows them.
+// How many pieces were asked for, each of which was written, and whether another follows them, which their number does not say.
 #[derive(Clone, Copy)]
 struct Progress {
-    pub asked: usize,
-    pub more: bool,
+    asked: usize,
+    more: bool,
 }
 
-// The number of a piece that could not be written, and whether another follows it.
+// The number of a piece that could not be written, and whether another follows it, which its number does not say.
 #[derive(Clone, Copy)]
 pub struct Unwritten {
     pub number: usize,
@@ -57,7 +57,7 @@ fn print_next(input: &[u8], progress: Progress, out: &mut [u8]) -> Result<Progre
 }
 
 // Prints the pieces, one after the other, and answers how many they are, or which of them could not be written.
-// A longer row does as well (docs/CONTRACTS.md), so `out` is a slice, here and in `print_next`, and no array.
+// A longer row does as well (docs/CONTRACTS.md), so `out` is a slice and no array, here and in `print_next`.
 pub fn print(input: &[u8], out: &mut [u8]) -> Result<usize, Unwritten>
     requires { 475200 ≤ length out.old }
     ensures { Ended input.now out.old out.new result }

@@ -5,7 +5,7 @@ ghost use Rattle.report.specs.Job.{job_of};
 
 use refusals::Refusal;
 
-// How many grammar bytes, tokens and questions a job has. The grammar stands at 2, the line at 3 + grammar, and the questions at 4 + grammar + line.
+// How many grammar bytes, tokens and questions a job has, as `job_of` tells them. The grammar stands at 2, the line at 3 + grammar, and the questions at 4 + grammar + line.
 #[derive(Clone, Copy)]
 pub struct Job {
     pub grammar: usize,

@@ -4,7 +4,6 @@
 ghost use Rattle.std.specs.Prelude.{◌≡◌, ◌*◌, ◌/◌, ◌<◌, ◌≤◌, length, ◌∷◌, [], take, drop, MatchOption};
 ghost use Rattle.refusals.specs.Row.{row_of};
 ghost use Rattle.report.specs.Job.{questions_of};
-ghost use Rattle.report.specs.inner.Checked.{JobPasses};
 ghost use Rattle.report.specs.Printed.{refused_line, answer_pieces, chart_pieces, pieces};
 ghost use Rattle.report.specs.Yielded.{Yielded};
 
@@ -13,11 +12,10 @@ mod sections; // sections.rt: writes the chart's lines, the marks, a question
 
 use chart::work::checked;
 use checks::Asked;
-use grammar::reading::Sections;
 use job::read_job;
 use lines::writing::Page;
 use refusals::Refusal;
-use sections::{write_chart, write_marked, write_tree};
+use sections::{CheckedJob, write_tree};
 
 // How long a piece is, and whether another follows, which its length does not say.
 #[derive(Clone, Copy)]
@@ -26,7 +24,7 @@ pub struct Piece {
     pub more: bool,
 }
 
-// A refusal is the only piece.
+// A refusal is the only piece. Here and below number and row are those of `write_piece`, as it is handed them.
 fn refused_piece(refusal: Refusal, number: usize, out: &mut [u8]) -> Piece
     requires { 475200 ≤ length out.old }
     ensures { Yielded (refused_line (row_of refusal) ∷ []) number out.old out.new result }
@@ -54,25 +52,21 @@ fn question(questions: &[u8], k: usize) -> Option<&[u8]>
     questions.chunks_exact(3).nth(k)
 }
 
-// A piece of the answers: the chart's, the marks', a question's.
-fn answer_piece(
-    g: &[u8],
-    s: Sections,
-    line: &[u8],
-    questions: &[u8],
-    number: usize,
-    out: &mut [u8],
-) -> Piece
-    requires { JobPasses g.now line.now s × (475200 ≤ length out.old) }
+// A piece of the answers: the chart's, the marks', a question's. Which one is asked for by number, as of `write_piece`.
+fn answer_piece(job: CheckedJob, questions: &[u8], number: usize, out: &mut [u8]) -> Piece
+    requires { 475200 ≤ length out.old }
     ensures { Yielded
-        (answer_pieces g.now line.now (questions_of questions.now)) number
+        (answer_pieces job.entry.grammar.view.bytes.now job.entry.line.now (questions_of questions.now)) number
         out.old out.new result }
 {
     let length = match number {
-        0 => write_chart(g, s, line, out),
-        1 => write_marked(g, line, out),
+        0 => job.write_chart(out),
+        1 => job.write_marked(out),
         _ => match question(questions, number - 2) {
-            Some(asked) => write_tree(g, line, asked[0], asked[1], asked[2], out),
+            Some(asked) => {
+                let bytes = job.grammar.view.bytes;
+                write_tree(bytes, job.line, asked[0], asked[1], asked[2], out)
+            }
             None => 0,
         },
     };
@@ -89,12 +83,12 @@ fn job_piece(g: &[u8], line: &[u8], questions: &[u8], number: usize, out: &mut [
 {
     match checked(g, line, Asked::Nothing, 512, 16384) {
         Err(refusal) => refused_piece(refusal, number, out),
-        Ok(s) => answer_piece(g, s, line, questions, number, out),
+        Ok(grammar) => answer_piece(CheckedJob { grammar, line }, questions, number, out),
     }
 }
 
 // Writes piece `number` of what is printed for the input.
-// A longer row does as well (docs/CONTRACTS.md), so `out` is a slice, here and in what is called, and no array.
+// A longer row does as well (docs/CONTRACTS.md), so `out` is a slice and no array, here and in what is called: an array there would need an arm that is never reached.
 pub fn write_piece(input: &[u8], number: usize, out: &mut [u8]) -> Piece
     requires { 475200 ≤ length out.old }
     ensures { Yielded (pieces input.now) number out.old out.new result }

@@ -1,11 +1,13 @@
 -- Bytes written into a row: none, one after the other, and the four of a node.
-use Prim.Native.Nat.{ℕ, ◌+◌, ◌*◌, ◌≤◌}
+use Prim.Native.Nat.{ℕ, ◌+◌, ◌-◌, ◌*◌, ◌≤◌}
 use mathlib.Core.Path.{◌≡◌, refl, sym, ◌∙◌, ap}
-use mathlib.Core.List.{List, [], ◌∷◌, ◌++◌, append_assoc}
-use native.Mathlib.Nat.{add_assoc, add-zero}
+use mathlib.Core.List.{List, [], ◌∷◌, ◌++◌, append_assoc, append-nil}
+use native.Mathlib.Nat.{add_assoc, add-zero, zero-add}
 use native.Mathlib.Omega.{arith}
-use lib.ListN.{length, take, drop, length-append, length-take, length-drop, take-append-drop}
+use borrow.Rule.Slice.PartMut.{put_mid, mid_of}
+use lib.ListN.{length, take, drop, length-append, length-take, length-drop, take-append-drop, drop_of_length-le}
 use lib.Seq.{drop-drop, drop_at, take_at, length-take-le}
+use Rattle.std.proofs.lemmas.List.{take_rest}
 use Rattle.derivation.specs.Node as derivation
 use Rattle.tree.specs.declared.node.Kind.{Kind}
 use Rattle.tree.specs.declared.node.Kind.TheVariants.{Token, Rule}
@@ -25,10 +27,20 @@ pub wrote_none : (row : List ℕ) (at : ℕ) → wrote row at [] ≡ row
 unfolding wrote
 wrote_none row at = rw add-zero (take-append-drop at row)
 
--- the part of a row from a place on, of four bytes, is a node's
-pub wrote_node : (row : List ℕ) (at : ℕ) (node : Node) → take at row ++ (bytes_of node ++ drop 4 (drop at row)) ≡ wrote row at (bytes_of node)
+-- a node's bytes, and the row after its first four, are those of the row with the node at its front
+pub wrote_node : (row : List ℕ) (node : Node) → bytes_of node ++ drop 4 row ≡ wrote row 0 (bytes_of node)
 unfolding wrote
-wrote_node row at node = rw (kind_long node.kind node.start node.end, drop-drop 4 at row)
+wrote_node row node = rw (kind_long node.kind node.start node.end) refl
+
+-- what is left of a row from a place on has room for bytes, and they are written at its front
+pub left_room : (row : List ℕ) (at : ℕ) (written : List ℕ) → at + length written ≤ length row → length written ≤ length (mid_of at (length row - at) row)
+left_room row at written h = rw (take_rest row at, length-drop) (omega arith)
+
+pub wrote_left : (row : List ℕ) (at : ℕ) (written : List ℕ) → at + length written ≤ length row → put_mid at (length row - at) row (wrote (mid_of at (length row - at) row) 0 written) ≡ wrote row at written
+unfolding wrote
+wrote_left row at written h =
+    let none : drop (length row - at) (drop at row) ≡ [] = drop_of_length-le (drop at row) (omega (arith, length-drop at row)) in
+    rw (take_rest row at, none, append-nil, zero-add, drop-drop) refl
 
 -- what is written right after
 pub wrote_more : (row : List ℕ) (at : ℕ) (xs ys : List ℕ) → at + (length xs + length ys) ≤ length row → wrote (wrote row at xs) (at + length xs) ys ≡ wrote row at (xs ++ ys)

@@ -28,10 +28,6 @@ counting_more limit count size rest total r low x y =
 one_counted : (limit : ℕ) → Counted 1 limit 1
 one_counted limit = record { most = omega arith; exact = λ l. omega arith; over = λ l. l }
 
--- past the limit nothing more is counted
-pub counting_over : {limit count rest total : ℕ} → limit < count → Counting limit count rest total → Counted total limit count
-counting_over l x = record { most = x.most; exact = λ k. absurd (omega arith); over = x.over }
-
 -- the first d children are counted
 pub record CountTurn (G : Grammar) (line : List ℕ) (h : ℕ) (symbols : List ℕ) (end limit total d m count : ℕ) : Type 0 where
   pub low : d ≤ length symbols

@@ -26,10 +26,7 @@ use Rattle.tree.specs.declared.kept.Span.{Span}
 use Rattle.tree.specs.inner.Kept.{row_kept, RowsKept}
 use Rattle.tree.specs.inner.Sets.{CategoryKnown, ClassBefore, MayServe}
 
--- the places of a row and of a depth are in the memory
-pub row_place : (n words A i : ℕ) → i ≤ n → chart_size (suc A) n ≤ words → A * (n + 1) + i < words
-row_place n words A i a room = lt_of_lt_of_le (row_inside A (suc A) (n + 1) i (omega arith) (omega arith)) room
-
+-- the place of a depth is in the memory
 pub depth_place : (n numbers A i j : ℕ) → i ≤ n → j ≤ n → depths_size (suc A) n ≤ numbers → (A * (n + 1) + i) * (n + 1) + j < numbers
 depth_place n numbers A i j a b room =
     lt_of_lt_of_le (row_inside (A * (n + 1) + i) (suc A * (n + 1)) (n + 1) j (row_inside A (suc A) (n + 1) i (omega arith) (omega arith)) (omega arith)) room

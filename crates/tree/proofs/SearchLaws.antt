@@ -36,13 +36,13 @@ module _ (G : Grammar) (f : Search) (s : Searchable G f) where
   -- the symbols of rule p, where they stand
   module _ (p : ℕ) (l : p < length G.rules) where
     abbrev right : List ℕ
-    right = (standing f.g.now (get_or f.starts.now p 0)).right
+    right = (standing f.grammar.view.bytes.now (get_or f.starts.now p 0)).right
 
     pub right_is : right ≡ (rule_at G p).right
     right_is = ap (λ (r : Rule). r.right) (s.is p l)
 
     pub symbols_few : length right ≤ 8
-    symbols_few = let k = s.stands p l in rw (← length_is f.g.now (get_or f.starts.now p 0) k) k.long
+    symbols_few = let k = s.stands p l in rw (← length_is f.grammar.view.bytes.now (get_or f.starts.now p 0) k) k.long
 
     pub symbols_known : (d : ℕ) → d < length right → CategoryKnown G (get_or right d 0)
     symbols_known d k = rw right_is (s.symbols p l d (rw right_is at k))
@@ -75,18 +75,18 @@ module _ (G : Grammar) (f : Search) (s : Searchable G f) where
       pub rule_inside : p < length G.rules
       rule_inside = omega (arith, low, chosen_serves.0)
 
-      left_is : (standing f.g.now (get_or f.starts.now p 0)).left ≡ (rule_at G p).left
+      left_is : (standing f.grammar.view.bytes.now (get_or f.starts.now p 0)).left ≡ (rule_at G p).left
       left_is = ap (λ (r : Rule). r.left) (s.is p rule_inside)
 
       -- where rule p does not serve, the chosen rule is a later one
-      pub rule_after : ((standing f.g.now (get_or f.starts.now p 0)).left ≡ span.category → ChildrenWithin G line h (right p rule_inside) span.start span.end → ⊥) → p + 1 ≤ chosen
+      pub rule_after : ((standing f.grammar.view.bytes.now (get_or f.starts.now p 0)).left ≡ span.category → ChildrenWithin G line h (right p rule_inside) span.start span.end → ⊥) → p + 1 ≤ chosen
       rule_after n = ⊎_elim
           (λ (q : p ≡ chosen). let c = chosen_serves in absurd (n (left_is ∙ rw q c.1) (rw (right_is p rule_inside, q) c.2)))
           (λ l. rw add-one l)
           (eq-or-lt_of_le low)
 
       -- where it serves, it is the chosen one
-      pub rule_found : (found : Found) → found.rule ≡ p → found.symbols.now ≡ right p rule_inside → (standing f.g.now (get_or f.starts.now p 0)).left ≡ span.category →
+      pub rule_found : (found : Found) → found.rule ≡ p → found.symbols.now ≡ right p rule_inside → (standing f.grammar.view.bytes.now (get_or f.starts.now p 0)).left ≡ span.category →
           ChildrenWithin G line h found.symbols.now span.start span.end → Division G line h found.symbols.now span.start span.end found.ends → Searched G line span found
       rule_found found q e l v x =
           let are : found.symbols.now ≡ (rule_at G p).right = e ∙ right_is p rule_inside in

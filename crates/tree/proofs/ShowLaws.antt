@@ -1,6 +1,6 @@
 -- What is shown, from the depth kept for the fact and the count of its nodes.
 use Rattle.std.proofs.Common.{Err, Ok}
-use Prim.Native.Nat.{ℕ, ◌+◌, ◌*◌, ◌/◌, ◌≤◌, ◌<◌}
+use Prim.Native.Nat.{ℕ, ◌*◌, ◌/◌, ◌≤◌, ◌<◌}
 use mathlib.Core.Path.{◌≡◌, refl, ap}
 use mathlib.Core.List.{List}
 use native.Mathlib.Omega.{arith}
@@ -50,8 +50,8 @@ module _ (G : Grammar) (line : List ℕ) (A i j : ℕ) (proper : Proper G) where
     pub count_is : count ≤ length out / 4 → count ≡ length (shown G line A i j)
     count_is l = omega (arith, counted.exact l)
 
-    pub has_room : count ≤ length out / 4 → 0 + length (bytes (shown G line A i j)) ≤ length out
+    pub has_room : count ≤ length out / 4 → length (bytes (shown G line A i j)) ≤ length out
     has_room l = omega (arith, count_is l, four)
 
     pub show_all : (out' : List ℕ) → count ≤ length out / 4 → out' ≡ wrote out 0 (bytes (shown G line A i j)) → ShowOutcome G line A i j out (Ok count) out'
-    show_all out' l o = shows.shows fact (omega (arith, has_room l)) (ap Ok (count_is l)) o
+    show_all out' l o = shows.shows fact (has_room l) (ap Ok (count_is l)) o

@@ -46,7 +46,7 @@ module _ (G : Grammar) (f : Search) (s : Searchable G f) (span : Span) (a : Node
   found_inside = omega (arith, (chosen_serves G f s span a).0, r.rule)
 
   -- what stands there
-  standing_is : symbols ≡ (standing f.g.now (get_or f.starts.now found.rule 0)).right
+  standing_is : symbols ≡ (standing f.grammar.view.bytes.now (get_or f.starts.now found.rule 0)).right
   standing_is = r.symbols ∙ sym (right_is G f s found.rule found_inside)
 
   pub turn_few : length symbols ≤ 8

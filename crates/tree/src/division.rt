@@ -1,12 +1,12 @@
 // Where a rule's symbols can be divided, over the rows and depths kept in memory: a category may be a child with a depth of at most h.
 ghost use Rattle.std.specs.Prelude.{◌≡◌, ℕ, ◌+◌, ◌≤◌, ◌<◌, length, get_or};
 ghost use Rattle.positions.specs.Member.{Member};
-ghost use Rattle.grammar.specs.Value.{Stands, standing};
+ghost use Rattle.grammar.specs.Value.{standing};
 ghost use Rattle.tree.specs.inner.Kept.{RowsFit, Fits};
 ghost use Rattle.tree.specs.inner.Sets.{FirstThat, FirstEnd, ClassBefore, StartsBefore, Sets, MayServe};
 
 use super::kept::{Kept, Span};
-use grammar::rules::{rule_left, rule_symbols};
+use grammar::rules::RuleAt;
 
 // What is kept of a line's facts, as far as their depth is at most h.
 #[derive(Clone, Copy)]
@@ -109,18 +109,17 @@ impl<'a> Kept<'a> {
         starts
     }
 
-    // Whether the rule that stands at a place may serve: it is of the category, and its first symbol has some end; one without symbols serves where the span is empty.
-    pub fn may_serve(&self, g: &[u8], at: usize, span: Span) -> bool
-        requires stands { Stands g.now at }
+    // Whether a rule may serve: it is of the category, and its first symbol has some end; one without symbols serves where the span is empty.
+    pub fn may_serve(&self, rule: RuleAt, span: Span) -> bool
         requires start { span.start ≤ length self.now.line.now }
-        requires fits { 0 < length (standing g.now at).right → RowsFit self.now (get_or (standing g.now at).right 0 0) }
-        ensures { MayServe self.now (standing g.now at) span result }
+        requires fits { 0 < length (standing rule.bytes.now rule.at).right → RowsFit self.now (get_or (standing rule.bytes.now rule.at).right 0 0) }
+        ensures { MayServe self.now (standing rule.entry.bytes.now rule.entry.at) span result }
     {
-        if rule_left(g, at) as usize != span.category {
+        if rule.left() as usize != span.category {
             return false;
         }
         let start = span.start;
-        match rule_symbols(g, at).first() {
+        match rule.symbols().first() {
             None => start == span.end,
             Some(&class) if class < 128 => start < self.line.len() && self.line[start] == class,
             Some(&symbol) => {

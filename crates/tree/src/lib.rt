@@ -1,10 +1,9 @@
 // The question Tree.
 #![tactic(auto)]
 
-ghost use Rattle.std.specs.Prelude.{◌≡◌, ◌≤◌, ◌<◌, length, Ok};
+ghost use Rattle.std.specs.Prelude.{◌≤◌, ◌<◌, length};
 ghost use Rattle.checks.specs.Memory.{chart_size, depths_size};
-ghost use Rattle.grammar.specs.Reading.{read_of};
-ghost use Rattle.grammar.specs.Given.{grammar_given};
+ghost use Rattle.grammar.specs.Checked.{grammar_in};
 ghost use Rattle.tree.specs.inner.Sets.{WorkKept};
 ghost use Rattle.tree.specs.inner.ShowOutcome.{ShowOutcome};
 ghost use Rattle.tree.specs.Outcome.{TreeOutcome};
@@ -20,30 +19,28 @@ use chart::work::checked;
 use checks::Asked;
 use counting::count_nodes;
 use filling::rounds::fill;
-use grammar::reading::Sections;
-use grammar::view::rule_starts_of;
+use grammar::view::Checked;
 use kept::{Kept, Span};
 use refusals::Refusal;
 use search::Search;
 use writing::write;
 
 // Counts the nodes of a span, writes them where there is room, and answers how many there are.
-fn show(g: &[u8], s: Sections, kept: Kept, span: Span, out: &mut [u8]) -> Result<usize, Refusal>
-    requires read { read_of g.now ≡ Ok s }
-    requires category { span.category < s.categories }
+fn show(grammar: Checked, kept: Kept, span: Span, out: &mut [u8]) -> Result<usize, Refusal>
+    requires category { span.category < grammar.view.sections.categories }
     requires start { span.start ≤ length kept.line.now }
     requires end { span.end ≤ length kept.line.now }
-    requires work { WorkKept (grammar_given g.now) kept }
-    requires rows { chart_size s.categories (length kept.line.now) ≤ length kept.words.now }
-    requires room { depths_size s.categories (length kept.line.now) ≤ length kept.depths.now }
-    ensures { ShowOutcome (grammar_given g.now) kept.entry.line.now span.category span.start span.end out.old result out.new }
+    requires work { WorkKept (grammar_in grammar) kept }
+    requires rows { chart_size grammar.view.sections.categories (length kept.line.now) ≤ length kept.words.now }
+    requires room { depths_size grammar.view.sections.categories (length kept.line.now) ≤ length kept.depths.now }
+    ensures { ShowOutcome (grammar_in grammar.entry) kept.entry.line.now span.category span.start span.end out.old result out.new }
 {
     if kept.depth_at(span) == 0 {
         return Err(Refusal::TreeOfNoFact);
     }
-    let starts = rule_starts_of(g, s);
+    let starts = grammar.rule_starts();
     let search = Search {
-        g,
+        grammar,
         starts: &starts,
         kept,
     };
@@ -52,11 +49,11 @@ fn show(g: &[u8], s: Sections, kept: Kept, span: Span, out: &mut [u8]) -> Result
     if room < count {
         return Err(Refusal::TreeTooSmall);
     }
-    write(&search, span, out, 0);
+    write(&search, span, out);
     Ok(count)
 }
 
-// The tree shown for (A, i, j), four bytes for each node, in preorder; how many nodes there are.
+// The tree shown for (A, i, j), four bytes for each node, in preorder; how many nodes there are. What it takes comes one by one, as C lends it.
 pub fn tree(
     g: &[u8],
     line: &[u8],
@@ -76,8 +73,8 @@ pub fn tree(
         start,
         end,
     };
-    let s = checked(g, line, asked, words.len(), depths.len())?;
-    fill(g, s, line, words, depths);
+    let grammar = checked(g, line, asked, words.len(), depths.len())?;
+    fill(grammar, line, words, depths);
     let kept = Kept {
         line,
         words,
@@ -88,5 +85,5 @@ pub fn tree(
         start,
         end,
     };
-    show(g, s, kept, span, out)
+    show(grammar, kept, span, out)
 }

@@ -1,5 +1,5 @@
 // A node is either a token or a use of a rule, with its start and end; and its four bytes.
-ghost use Rattle.std.specs.Prelude.{◌≡◌, ◌+◌, ◌≤◌, ◌<◌, length};
+ghost use Rattle.std.specs.Prelude.{◌≡◌, ◌≤◌, ◌<◌, length};
 ghost use Rattle.tree.specs.Bytes.{rule_use, token_of, bytes_of, wrote};
 
 #[derive(Clone, Copy)]
@@ -54,12 +54,13 @@ impl From<Node> for [u8; 4] {
     }
 }
 
-// The node's four bytes are written at a place; the place after them.
-pub fn put_node(out: &mut [u8], at: usize, node: Node) -> usize
-    requires { at + 4 ≤ length out.old }
-    ensures { (result ≡ at + 4) × (out.new ≡ wrote out.old at (bytes_of node)) }
+// The node's four bytes are written at the front of a row; how many they are.
+#[tactic(auto, using(crate::proofs::ByteLaws::wrote_node))]
+pub fn put_node(out: &mut [u8], node: Node) -> usize
+    requires { 4 ≤ length out.old }
+    ensures { (result ≡ 4) × (out.new ≡ wrote out.old 0 (bytes_of node)) }
 {
     let bytes: [u8; 4] = node.into();
-    out[at..at + 4].copy_from_slice(&bytes);
-    at + 4
+    out[..4].copy_from_slice(&bytes);
+    4
 }

@@ -15,16 +15,17 @@ fn byte_of(digits: &[u8]) -> Option<u8> {
 }
 
 // The numbers of a line as bytes, as many as have room; none where one of its numbers is no byte.
-fn read_job<'a>(line: &[u8], room: &'a mut [u8]) -> Option<&'a [u8]> {
+fn read_bytes<'a>(line: &[u8], room: &'a mut [u8]) -> Option<&'a [u8]> {
     let mut count = 0;
-    for digits in line
+    for (k, digits) in line
         .split(|byte| !byte.is_ascii_digit())
         .filter(|digits| !digits.is_empty())
+        .enumerate()
     {
         let byte = byte_of(digits)?;
-        if let Some(place) = room.get_mut(count) {
+        if let Some(place) = room.get_mut(k) {
             *place = byte;
-            count += 1;
+            count = k + 1;
         }
     }
     Some(&room[..count])
@@ -37,7 +38,7 @@ fn run_line(line: &[u8], job: &mut [u8; JOB], out: &mut [u8; PIECE]) {
         io::write_all(1, b"\n");
         return;
     }
-    match read_job(line, job) {
+    match read_bytes(line, job) {
         None => {
             io::write_all(1, b"not run: a number of this line is above 255\n");
         }

@@ -7,11 +7,11 @@ pub record New (words next : List ℕ) (q j : ℕ) : Type 0 where
   pub found : Member (get_or next q 0) j
   pub fresh : Member (get_or words q 0) j → ⊥
 
--- the entries base + j of the set's members j are `depth`, and the others as they were
-pub record Deepened (base set depth : ℕ) (old new : List ℕ) : Type 0 where
+-- the entries of the set's members are `depth`, and the others as they were
+pub record Deepened (set depth : ℕ) (old new : List ℕ) : Type 0 where
   pub long : length new ≡ length old
-  pub hit : (j : ℕ) → Member set j → get_or new (base + j) 0 ≡ depth
-  pub miss : (q : ℕ) → ((j : ℕ) → Member set j → q ≡ base + j → ⊥) → get_or new q 0 ≡ get_or old q 0
+  pub hit : (j : ℕ) → Member set j → get_or new j 0 ≡ depth
+  pub miss : (q : ℕ) → (Member set q → ⊥) → get_or new q 0 ≡ get_or old q 0
 
 -- of the rows from `from` up to `to`: their words are those of `next`, what is new has the depth, and all else is as it was
 pub record Committed (from to width depth : ℕ) (words next depths words' depths' : List ℕ) : Type 0 where

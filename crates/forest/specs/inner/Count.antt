@@ -5,7 +5,7 @@ use Rattle.derivation.specs.computed.Round.{child, children}
 use Rattle.derivation.specs.computed.Facts.{facts}
 use Rattle.derivation.specs.computed.FactCount.{total}
 use Rattle.grammar.specs.Value.{standing}
-use Rattle.grammar.specs.Given.{grammar_given}
+use Rattle.grammar.specs.Checked.{grammar_in}
 use Rattle.forest.specs.declared.place.Chart.{Chart}
 
 -- the symbols before symbol d derive i..m and symbol d derives m..j
@@ -26,10 +26,10 @@ rule_count G line symbols = total (place_count G line symbols) (length symbols)
 
 -- the same of a chart, by the rule that stands at a position
 abbrev pub start_records : Chart → ℕ → ℕ → ℕ → ℕ
-start_records chart at = start_count (grammar_given chart.g.now) chart.line.now (standing chart.g.now at).right
+start_records chart at = start_count (grammar_in chart.grammar) chart.line.now (standing chart.grammar.view.bytes.now at).right
 
 abbrev pub place_records : Chart → ℕ → ℕ → ℕ
-place_records chart at = place_count (grammar_given chart.g.now) chart.line.now (standing chart.g.now at).right
+place_records chart at = place_count (grammar_in chart.grammar) chart.line.now (standing chart.grammar.view.bytes.now at).right
 
 abbrev pub rule_records : Chart → ℕ → ℕ
-rule_records chart at = rule_count (grammar_given chart.g.now) chart.line.now (standing chart.g.now at).right
+rule_records chart at = rule_count (grammar_in chart.grammar) chart.line.now (standing chart.grammar.view.bytes.now at).right

@@ -1,6 +1,6 @@
 -- A turn sees one category more, and the last turn has seen them all.
 use Rattle.std.proofs.Common.{rules, arith, ◌≡◌, sym, ◌∙◌, length}
-use Rattle.grammar.specs.Value.{grammar_of}
+use Rattle.grammar.specs.Checked.{grammar_in}
 use Rattle.grammar.proofs.Encoded.{category_count_lem}
 use Rattle.marks.proofs.ReachLaws.{reach_plain, reach_secret}
 use Rattle.marks.proofs.reach_from.Goals as goal
@@ -9,7 +9,7 @@ use Rattle.marks.proofs.reach_from.Goals.{then-category_flag-eq1, else-category_
 pub loop-a-preserved : goal.loop-a-preserved
 loop-a-preserved c =
     let a = c.args in
-    let G = grammar_of a.g.now a.s in
+    let G = grammar_in a.grammar in
     let l = c.loop-a in
     let flag = c.category_flag.ensures.0 in
     elim c.if-category_flag-eq1.branch [
@@ -19,5 +19,5 @@ loop-a-preserved c =
 
 pub returns : goal.returns
 returns c =
-    let full : c.loop-a.a ≡ length (grammar_of c.args.g.now c.args.s).categories = omega (arith, category_count_lem _ _ c.requires.0) in
+    let full : c.loop-a.a ≡ length (grammar_in c.args.grammar).categories = omega (arith, category_count_lem _ _ c.args.grammar.sectioned) in
     rw full at c.loop-a.invariant

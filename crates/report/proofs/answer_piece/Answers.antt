@@ -7,7 +7,7 @@ use Rattle.report.proofs.answer_piece.Goals.{in-0, in-1, in_default+in-Some, in_
 pub returns : goal.returns
 returns c =
     let a = c.args in
-    let follows = answers_more a.g.now a.line.now a.questions.now a.number in
+    let follows = answers_more a.job.grammar.view.bytes.now a.job.line.now a.questions.now a.number in
     elim c.match-number.branch [
       | in-0 w ↦ rw (w.out-is, w.length-is) (piece_stored _ a.number _ follows _ (rw w.in-0.is (first_answer _ _ _)) w.write_chart-length.ensures)
       | in-1 w ↦ rw (w.out-is, w.length-is) (piece_stored _ a.number _ follows _ (rw w.in-1.is (second_answer _ _ _)) w.write_marked-length.ensures)

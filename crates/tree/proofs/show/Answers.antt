@@ -1,45 +1,42 @@
 -- `tree::show` meets its contract: no fact, no room, or the nodes.
 use Rattle.std.proofs.Common.{sym, ◌∙◌}
-use Rattle.grammar.specs.Given.{grammar_given}
-use Rattle.grammar.proofs.Accepted.{accepted}
+use Rattle.grammar.specs.Checked.{grammar_in}
+use Rattle.grammar.proofs.Encoded.{sections_proper}
 use Rattle.tree.specs.inner.Searchable.{NodeAt}
-use Rattle.tree.proofs.CheckLaws.{searchable, given_proper, given_categories}
+use Rattle.tree.proofs.CheckLaws.{category_known, searchable}
 use Rattle.tree.proofs.ShowLaws.{show_none, node_at, show_small, has_room, show_all}
 use Rattle.tree.proofs.show.Goals as goal
 use Rattle.tree.proofs.show.Goals.{Else-depth_at-eq0}
 
 -- the fact as a node
-node : (c : Else-depth_at-eq0) → let a = c.args in NodeAt (grammar_given a.g.now) a.kept.line.now a.span
+node : (c : Else-depth_at-eq0) → let a = c.args in NodeAt (grammar_in a.grammar) a.kept.line.now a.span
 node c =
     let p = c.requires in
-    node_at _ _ _ _ _ (given_proper _ _ p.read) c.args.kept.depths.now p.work.kept (given_categories _ _ p.read _ p.category) p.start p.end (λ z. c.if-depth_at-eq0.false (c.depth_at.ensures ∙ z))
+    node_at _ _ _ _ _ (sections_proper _ _ c.args.grammar.sectioned) c.args.kept.depths.now p.work.kept (category_known _ _ c.args.grammar.sectioned _ p.category) p.start p.end (λ z. c.if-depth_at-eq0.false (c.depth_at.ensures ∙ z))
 
 pub returns-then-depth_at-eq0 : goal.returns-then-depth_at-eq0
 returns-then-depth_at-eq0 c =
     let p = c.requires in
-    show_none _ _ _ _ _ (given_proper _ _ p.read) _ _ (p.work.kept _ _ _ (given_categories _ _ p.read _ p.category) p.start p.end) (sym c.depth_at.ensures ∙ c.if-depth_at-eq0.true)
-
-pub rule_starts_of-starts-requires : goal.rule_starts_of-starts-requires
-rule_starts_of-starts-requires c = (accepted _ _ c.requires.read).0
+    show_none _ _ _ _ _ (sections_proper _ _ c.args.grammar.sectioned) _ _ (p.work.kept _ _ _ (category_known _ _ c.args.grammar.sectioned _ p.category) p.start p.end) (sym c.depth_at.ensures ∙ c.if-depth_at-eq0.true)
 
 pub count_nodes-count-requires-clause-ready : goal.count_nodes-count-requires-clause-ready
 count_nodes-count-requires-clause-ready c =
     let p = c.requires in
-    (searchable _ _ p.read c.rule_starts_of-starts.ensures p.rows p.room p.work, node (goal.at.count_nodes-count-requires-clause-ready c).Else-depth_at-eq0)
+    (searchable _ c.rule_starts-starts.ensures p.rows p.room p.work, node (goal.at.count_nodes-count-requires-clause-ready c).Else-depth_at-eq0)
 
 pub returns-then-room-count : goal.returns-then-room-count
 returns-then-room-count c =
-    show_small _ _ _ _ _ (given_proper _ _ c.requires.read) _ _ (node (goal.at.returns-then-room-count c).Else-depth_at-eq0) c.count_nodes-count.ensures c.if-room-count.true
+    show_small _ _ _ _ _ (sections_proper _ _ c.args.grammar.sectioned) _ _ (node (goal.at.returns-then-room-count c).Else-depth_at-eq0) c.count_nodes-count.ensures c.if-room-count.true
 
 pub write-requires-clause-ready : goal.write-requires-clause-ready
 write-requires-clause-ready c =
     let p = c.requires in
-    (searchable _ _ p.read c.rule_starts_of-starts.ensures p.rows p.room p.work, node (goal.at.write-requires-clause-ready c).Else-depth_at-eq0)
+    (searchable _ c.rule_starts-starts.ensures p.rows p.room p.work, node (goal.at.write-requires-clause-ready c).Else-depth_at-eq0)
 
 pub write-requires-clause-room : goal.write-requires-clause-room
 write-requires-clause-room c =
-    has_room _ _ _ _ _ (given_proper _ _ c.requires.read) c.args.out.now _ (node (goal.at.write-requires-clause-room c).Else-depth_at-eq0) c.count_nodes-count.ensures c.if-room-count.false
+    has_room _ _ _ _ _ (sections_proper _ _ c.args.grammar.sectioned) c.args.out.now _ (node (goal.at.write-requires-clause-room c).Else-depth_at-eq0) c.count_nodes-count.ensures c.if-room-count.false
 
 pub returns : goal.returns
 returns c =
-    show_all _ _ _ _ _ (given_proper _ _ c.requires.read) _ _ (node (goal.at.returns c).Else-depth_at-eq0) c.count_nodes-count.ensures _ c.if-room-count.false c.write.ensures.nodes
+    show_all _ _ _ _ _ (sections_proper _ _ c.args.grammar.sectioned) _ _ (node (goal.at.returns c).Else-depth_at-eq0) c.count_nodes-count.ensures _ c.if-room-count.false c.write.ensures.nodes

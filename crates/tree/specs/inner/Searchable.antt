@@ -6,7 +6,7 @@ use Rattle.derivation.specs.computed.Table.{depth_of}
 use Rattle.derivation.specs.computed.Shown.{shown}
 use Rattle.checks.specs.Memory.{chart_size, depths_size}
 use Rattle.grammar.specs.Value.{Stands, standing}
-use Rattle.grammar.specs.Given.{grammar_given}
+use Rattle.grammar.specs.Checked.{grammar_in}
 use Rattle.tree.specs.declared.kept.Span.{Span}
 use Rattle.tree.specs.declared.search.Search.{Search}
 use Rattle.tree.specs.inner.Sets.{CategoryKnown, WorkKept}
@@ -14,8 +14,8 @@ use Rattle.tree.specs.inner.Sets.{CategoryKnown, WorkKept}
 pub record Searchable (G : Grammar) (s : Search) : Type 0 where
   pub proper : Proper G
   pub few : length G.rules ≤ 128
-  pub stands : (p : ℕ) → p < length G.rules → Stands s.g.now (get_or s.starts.now p 0)
-  pub is : (p : ℕ) → p < length G.rules → standing s.g.now (get_or s.starts.now p 0) ≡ rule_at G p
+  pub stands : (p : ℕ) → p < length G.rules → Stands s.grammar.view.bytes.now (get_or s.starts.now p 0)
+  pub is : (p : ℕ) → p < length G.rules → standing s.grammar.view.bytes.now (get_or s.starts.now p 0) ≡ rule_at G p
   pub symbols : (p : ℕ) → p < length G.rules → (d : ℕ) → d < length (rule_at G p).right → CategoryKnown G (get_or (rule_at G p).right d 0)
   pub work : WorkKept G s.kept
   pub rows : chart_size (length G.categories) (length s.kept.line.now) ≤ length s.kept.words.now
@@ -28,9 +28,9 @@ pub record NodeAt (G : Grammar) (line : List ℕ) (span : Span) : Type 0 where
   pub end : span.end ≤ length line
   pub fact : 0 < depth_of G line span.category span.start span.end
 
--- both of the grammar whose bytes are searched, and the nodes that are shown of a span
+-- both of the grammar that is searched, and the nodes that are shown of a span
 abbrev pub Ready : Search → Span → Type 0
-Ready s span = Searchable (grammar_given s.g.now) s × NodeAt (grammar_given s.g.now) s.kept.line.now span
+Ready s span = Searchable (grammar_in s.grammar) s × NodeAt (grammar_in s.grammar) s.kept.line.now span
 
 abbrev pub nodes_of : Search → Span → List NodeValue
-nodes_of s span = shown (grammar_given s.g.now) s.kept.line.now span.category span.start span.end
+nodes_of s span = shown (grammar_in s.grammar) s.kept.line.now span.category span.start span.end

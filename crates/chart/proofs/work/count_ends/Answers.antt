@@ -1,6 +1,5 @@
 -- The total of one row more; each row shows at most 64 ends.
-use Rattle.std.proofs.Common.{◌<◌, ℕ, get_or, arith, sym}
-use Rattle.std.proofs.lemmas.List.{get_or-take, length-take-le}
+use Rattle.std.proofs.Common.{ℕ, get_or, arith, sym}
 use Rattle.positions.specs.Count.{count_below}
 use Rattle.positions.proofs.Counts.{count_le}
 use Rattle.derivation.proofs.Totals.{total_none, total_next, total_le}
@@ -12,13 +11,11 @@ loop-row-init c = sym (total_none _)
 pub overflow_add-ends : goal.overflow_add-ends
 overflow_add-ends c =
     let l = c.loop-row in
-    let shown : ℕ → ℕ = λ q. count_below 64 (get_or c.args.words.now q 0) in
-    omega (arith, total_le shown 64 l.row-index (λ q. count_le 64 _), l.invariant, length-take-le _ _ c.requires.0)
+    let shown : ℕ → ℕ = λ q. count_below 64 (get_or c.args.rows.now q 0) in
+    omega (arith, total_le shown 64 l.row-index (λ q. count_le 64 _), l.invariant)
 
 pub loop-row-preserved : goal.loop-row-preserved
 loop-row-preserved c =
     let l = c.loop-row in
-    let shown : ℕ → ℕ = λ q. count_below 64 (get_or c.args.words.now q 0) in
-    let inside : l.row-index < c.args.rows = omega (arith, length-take-le _ _ c.requires.0) in
-    let same = get_or-take _ c.args.words.now _ 0 inside in
-    omega (arith, total_next shown l.row-index, l.invariant, rw same at c.count.ensures)
+    let shown : ℕ → ℕ = λ q. count_below 64 (get_or c.args.rows.now q 0) in
+    omega (arith, total_next shown l.row-index, l.invariant, c.count.ensures)

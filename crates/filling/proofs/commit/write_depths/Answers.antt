@@ -1,5 +1,5 @@
 -- A turn writes the entry of the first member left.
-use Rattle.std.proofs.Common.{◌+◌, ◌<◌, length, arith}
+use Rattle.std.proofs.Common.{◌<◌, length, arith}
 use Rattle.positions.proofs.Listed.{begun, turn, none_left}
 use Rattle.filling.proofs.DepthLaws.{deepened_none, deepened_less}
 use Rattle.filling.proofs.commit.write_depths.Goals as goal
@@ -10,17 +10,14 @@ loop-j-init c =
     rw e (record { inside = omega arith; room = c.requires; rest = λ final d. d })
 
 -- the entry of the member of this turn is among the depths
-room : (c : goal.In-Some) → c.args.base + c.in-Some.j < length c.args.depths.now
+room : (c : goal.In-Some) → c.in-Some.j < length c.args.depths.now
 room c = let l = c.loop-j.invariant in l.room _ (turn _ _ _ (omega (arith, l.inside)) c.in-Some.ensures.steps).taken.here
 
-pub overflow_add-depths : goal.overflow_add-depths
-overflow_add-depths c = omega (arith, room c)
+pub offset_bounds-depths-j : goal.offset_bounds-depths-j
+offset_bounds-depths-j c = omega (arith, room c)
 
-pub offset_bounds-depths-base : goal.offset_bounds-depths-base
-offset_bounds-depths-base c = omega (arith, room c)
-
-pub bounds-depths-base : goal.bounds-depths-base
-bounds-depths-base c = omega (arith, room c)
+pub bounds-depths-j : goal.bounds-depths-j
+bounds-depths-j c = omega (arith, room c)
 
 pub loop-j-preserved : goal.loop-j-preserved
 loop-j-preserved c =
@@ -31,10 +28,10 @@ loop-j-preserved c =
       room = λ j m. l.invariant.room j ((t.rest j).0 m).0;
       rest = λ final d.
           l.invariant.rest final
-          (deepened_less c.args.base c.args.depth _ _ t.taken l.depths final (omega (arith, room c)) (rw t.after at d));
+          (deepened_less c.args.depth _ _ t.taken l.depths final (omega (arith, room c)) (rw t.after at d));
     }
 
 pub returns : goal.returns
 returns c =
     let l = c.loop-j in
-    l.invariant.rest l.depths (rw (none_left _ c.in-None.ensures.steps.0) (deepened_none c.args.base c.args.depth l.depths))
+    l.invariant.rest l.depths (rw (none_left _ c.in-None.ensures.steps.0) (deepened_none c.args.depth l.depths))

@@ -1,7 +1,7 @@
 -- `tree::counting::count_nodes` meets its contract.
 use Rattle.std.proofs.Common.{arith, refl, ap, ℕ, length, ◌<◌, ◌+◌, get_or}
 use native.Mathlib.Nat.{lt_of_lt_of_le}
-use Rattle.grammar.specs.Given.{grammar_given}
+use Rattle.grammar.specs.Checked.{grammar_in}
 use Rattle.tree.specs.inner.Searched.{child_limit}
 use Rattle.tree.proofs.TurnLaws.{NextChild, turn_few, turn_shown, turn_child, child_node}
 use Rattle.tree.proofs.CountLaws.{count_begin, count_token, count_category, count_end}
@@ -17,7 +17,7 @@ next : (t : ℕ) (c : In-loop-d t) →
     let f = c.args.search.now in
     let d = c.loop-d.d in
     let ends = c.node-found.result.ends in
-    let G = grammar_given f.g.now in
+    let G = grammar_in f.grammar in
     NextChild G f.kept.line.now (child_limit G f.kept.line.now c.args.span) c.node-found.result.symbols.now c.args.span.end d (get_or ends d 0) (get_or ends (d + 1) 0)
 next t c = turn_child _ _ c.requires.ready.0 _ c.requires.ready.1 _ c.node-found.ensures _ c.loop-d-test.true
 

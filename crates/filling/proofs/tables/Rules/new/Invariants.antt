@@ -4,10 +4,10 @@ use Rattle.grammar.specs.Value.{start_of}
 use Rattle.filling.proofs.TableLaws.{RulesBefore}
 use Rattle.filling.proofs.tables.Rules.new.Given as goal
 
-abbrev pub invariant-loop-rule : goal.invariant-loop-rule
-invariant-loop-rule l = record {
-  many : l.rule-index-end ≡ l.fn.sections.rules;
-  long : length l.rule-items ≡ l.fn.sections.rules;
-  here : l.at ≡ start_of l.bytes l.rule-index l.initial.at;
-  before : RulesBefore l.bytes l.initial.at l.rule-index l.rule-items;
+abbrev pub invariant-loop-entry : goal.invariant-loop-entry
+invariant-loop-entry l = record {
+  many : l.entry-index-end ≡ l.grammar.view.sections.rules;
+  long : length l.entry-items ≡ l.grammar.view.sections.rules;
+  here : l.at ≡ start_of l.bytes l.entry-index l.initial.at;
+  before : RulesBefore l.bytes l.initial.at l.entry-index l.entry-items;
 }

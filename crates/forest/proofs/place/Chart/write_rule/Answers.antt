@@ -11,7 +11,7 @@ use Rattle.forest.proofs.RowLaws.{rule_rows_are, gathered_begins, gathered_room,
 use Rattle.forest.proofs.place.Chart.write_rule.Goals as goal
 
 -- the rows of the rule, by the rule that stands there
-rows_are : (chart : Chart) (p at : ℕ) → RuleStands chart.g.now p at → gathered (length (standing chart.g.now at).right) (place_rows chart p) ≡ rule_rows chart p
+rows_are : (chart : Chart) (p at : ℕ) → RuleStands chart.grammar p at → gathered (length (standing chart.grammar.view.bytes.now at).right) (place_rows chart p) ≡ rule_rows chart p
 rows_are chart p at stands = ap (λ (r : Rule). gathered (length r.right) (place_rows chart p)) stands.found.is ∙ rule_rows_are chart p
 
 pub loop-d-init : goal.loop-d-init
@@ -21,16 +21,16 @@ pub write-written-requires : goal.write-written-requires
 write-written-requires c =
     let chart = c.args.self.now in
     let same = rows_are chart c.args.rule c.args.at c.requires.stands in
-    gathered_room (place_rows chart c.args.rule) c.loop-d.invariant (length (standing chart.g.now c.args.at).right) (omega arith) (omega (arith, ap (λ (s : List Branch). length s) same, c.requires.room))
+    gathered_room (place_rows chart c.args.rule) c.loop-d.invariant (length (standing chart.grammar.view.bytes.now c.args.at).right) (omega arith) (omega (arith, ap (λ (s : List Branch). length s) same, c.requires.room))
 
 pub loop-d-preserved : goal.loop-d-preserved
 loop-d-preserved c =
     let chart = c.args.self.now in
     let same = rows_are chart c.args.rule c.args.at c.requires.stands in
-    gathered_more (place_rows chart c.args.rule) c.loop-d.invariant (length (standing chart.g.now c.args.at).right) (omega arith) (omega (arith, ap (λ (s : List Branch). length s) same, c.requires.room)) c.write-written.ensures
+    gathered_more (place_rows chart c.args.rule) c.loop-d.invariant (length (standing chart.grammar.view.bytes.now c.args.at).right) (omega arith) (omega (arith, ap (λ (s : List Branch). length s) same, c.requires.room)) c.write-written.ensures
 
 pub returns : goal.returns
 returns c =
     let chart = c.args.self.now in
-    let all : c.loop-d.d ≡ length (standing chart.g.now c.args.at).right = omega arith in
+    let all : c.loop-d.d ≡ length (standing chart.grammar.view.bytes.now c.args.at).right = omega arith in
     rw (← rows_are chart c.args.rule c.args.at c.requires.stands) (rw all at c.loop-d.invariant)

@@ -6,32 +6,33 @@ use Rattle.positions.proofs.Taking.{Taken}
 use Rattle.derivation.specs.computed.FactCount.{total}
 use Rattle.derivation.proofs.Within.{children_inside}
 use Rattle.grammar.specs.Value.{standing}
-use Rattle.grammar.specs.Given.{grammar_given}
+use Rattle.grammar.specs.Checked.{grammar_in}
 use Rattle.forest.specs.declared.place.Place.{Place}
 use Rattle.forest.specs.inner.Count.{middle_count}
 use Rattle.forest.specs.inner.Ends.{Reached, PrefixEnds}
-use Rattle.forest.proofs.EndsLaws.{chart_of, proper}
+use Rattle.forest.proofs.RuleLaws.{proper}
+use Rattle.forest.proofs.EndsLaws.{chart_of}
 use Rattle.forest.proofs.CountLaws.{start_le, middle_none, middle_some, chosen, chosen_whole, chosen_less, chosen_none}
 use Rattle.forest.proofs.place.Place.count_start.Goals as goal
 
 module _ (place : Place) (start : ℕ) where
   abbrev n : ℕ
-  n = suc (length place.chart.line.now)
+  n = suc (length place.chart.now.line.now)
 
   -- the records of a middle
   abbrev counts : ℕ → ℕ
-  counts = middle_count (grammar_given place.chart.g.now) place.chart.line.now (standing place.chart.g.now place.at).right place.d start
+  counts = middle_count (grammar_in place.chart.now.grammar) place.chart.now.line.now (standing place.chart.now.grammar.view.bytes.now place.at).right place.d start
 
-  all_counted : (middles : ℕ) → PrefixEnds place.chart place.at place.d start middles → total (chosen middles counts) n ≡ total counts n
+  all_counted : (middles : ℕ) → PrefixEnds place.chart.now place.at place.d start middles → total (chosen middles counts) n ≡ total counts n
   all_counted middles ends = chosen_whole counts middles n
-      (λ m none. middle_none _ _ (chart_of place).is_line.short _ place.d (proper (chart_of place)) start m (λ h. none ((ends m).1 h)))
+      (λ m none. middle_none _ _ (chart_of place).is_line.short _ place.d (proper place.chart.now.grammar) start m (λ h. none ((ends m).1 h)))
 
   few : total counts n ≤ 4096
   few = start_le _ _ (chart_of place).is_line.short _ place.d start n (omega arith)
 
   -- the records of the middle that a turn takes, and what it leaves
-  module _ (left m : ℕ) (taken : Taken left m) (reached : Reached place.chart place.at place.d start m) where
-    inside : m ≤ length place.chart.line.now
+  module _ (left m : ℕ) (taken : Taken left m) (reached : Reached place.chart.now place.at place.d start m) where
+    inside : m ≤ length place.chart.now.line.now
     inside = (children_inside reached).ends
 
     less : total (chosen left counts) n ≡ counts m + total (chosen (bit_and left (left - 1)) counts) n
@@ -61,7 +62,7 @@ loop-m-preserved c =
     let l = c.loop-m.invariant in
     let t = turn _ _ _ l.fits c.in-Some.ensures.steps in
     let reached = l.part _ t.taken.here in
-    let some = middle_some _ _ (chart_of place).is_line.short _ place.d (proper (chart_of place)) c.args.start c.in-Some.m c.symbol_ends.result reached c.symbol_ends.ensures in
+    let some = middle_some _ _ (chart_of place).is_line.short _ place.d (proper place.chart.now.grammar) c.args.start c.in-Some.m c.symbol_ends.result reached c.symbol_ends.ensures in
     rw t.after (record {
       fits = omega (arith, l.fits, t.taken.less);
       part = λ m z. l.part m ((t.taken.rest m).0 z).0;
@@ -71,4 +72,4 @@ loop-m-preserved c =
 pub returns : goal.returns
 returns c =
     let none = none_left _ c.in-None.ensures.steps.0 in
-    omega (arith, rw none at c.loop-m.invariant.records, chosen_none (counts c.args.self.now c.args.start) (suc (length c.args.self.now.chart.line.now)))
+    omega (arith, rw none at c.loop-m.invariant.records, chosen_none (counts c.args.self.now c.args.start) (suc (length c.args.self.now.chart.now.line.now)))

@@ -9,5 +9,5 @@ abbrev pub invariant-loop-m : goal.invariant-loop-m
 invariant-loop-m l = record {
   fits : l.m-iterator.left < 2 ^ 64;
   part : (m : ℕ) → Member l.m-iterator.left m → Member l.set m;
-  led : Gathered (SymbolDerives l.self.chart l.self.at l.self.d) (Member l.set) (Member l.m-iterator.left) l.all;
+  led : Gathered (SymbolDerives l.self.chart.now l.self.at l.self.d) (Member l.set) (Member l.m-iterator.left) l.all;
 }

@@ -11,26 +11,26 @@ loop-start-init c = gathered_begins _ _
 pub write_start-written-requires-clause-room : goal.write_start-written-requires-clause-room
 write_start-written-requires-clause-room c =
     let place = c.args.self.now in
-    let same = place_rows_are place.chart place.rule place.d in
-    gathered_room (start_rows place.chart place.rule place.d) c.loop-start.invariant (suc (length place.chart.line.now)) (omega arith) (omega (arith, ap (λ (s : List Branch). length s) same, c.requires))
+    let same = place_rows_are place.chart.now place.rule place.d in
+    gathered_room (start_rows place.chart.now place.rule place.d) c.loop-start.invariant (suc (length place.chart.now.line.now)) (omega arith) (omega (arith, ap (λ (s : List Branch). length s) same, c.requires))
 
 pub loop-start-preserved : goal.loop-start-preserved
 loop-start-preserved c =
     let place = c.args.self.now in
-    let same = place_rows_are place.chart place.rule place.d in
-    gathered_more (start_rows place.chart place.rule place.d) c.loop-start.invariant (suc (length place.chart.line.now)) (omega arith) (omega (arith, ap (λ (s : List Branch). length s) same, c.requires)) c.write_start-written.ensures
+    let same = place_rows_are place.chart.now place.rule place.d in
+    gathered_more (start_rows place.chart.now place.rule place.d) c.loop-start.invariant (suc (length place.chart.now.line.now)) (omega arith) (omega (arith, ap (λ (s : List Branch). length s) same, c.requires)) c.write_start-written.ensures
 
 pub returns : goal.returns
 returns c =
     let place = c.args.self.now in
-    let all : c.loop-start.start ≡ suc (length place.chart.line.now) = omega arith in
-    rw (← place_rows_are place.chart place.rule place.d) (rw all at c.loop-start.invariant)
+    let all : c.loop-start.start ≡ suc (length place.chart.now.line.now) = omega arith in
+    rw (← place_rows_are place.chart.now place.rule place.d) (rw all at c.loop-start.invariant)
 
 -- the records of the last start are written at the return
 pub returns-2 : goal.returns-2
 returns-2 c =
     let place = c.args.self.now in
-    let same = place_rows_are place.chart place.rule place.d in
-    let all : c.loop-start.start + 1 ≡ suc (length place.chart.line.now) = omega arith in
+    let same = place_rows_are place.chart.now place.rule place.d in
+    let all : c.loop-start.start + 1 ≡ suc (length place.chart.now.line.now) = omega arith in
     rw (← same)
-    (rw all at (gathered_more (start_rows place.chart place.rule place.d) c.loop-start.invariant (suc (length place.chart.line.now)) (omega arith) (omega (arith, ap (λ (s : List Branch). length s) same, c.requires)) c.write_start-written.ensures))
+    (rw all at (gathered_more (start_rows place.chart.now place.rule place.d) c.loop-start.invariant (suc (length place.chart.now.line.now)) (omega arith) (omega (arith, ap (λ (s : List Branch). length s) same, c.requires)) c.write_start-written.ensures))

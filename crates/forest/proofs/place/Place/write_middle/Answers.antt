@@ -10,20 +10,21 @@ use Rattle.positions.proofs.Listed.{turn, length_list}
 use Rattle.derivation.proofs.Within.{children_inside}
 use Rattle.forest.specs.declared.place.Place.{Place}
 use Rattle.forest.specs.inner.Ends.{Reached}
-use Rattle.forest.proofs.EndsLaws.{chart_of, rules_few, right_long}
+use Rattle.forest.proofs.RuleLaws.{rules_few}
+use Rattle.forest.proofs.EndsLaws.{chart_of, right_long}
 use Rattle.forest.proofs.PartLaws.{flat_map_next, taken_next, taken_more, taken_all}
 use Rattle.forest.proofs.RowLaws.{one_row, middle_rows_are, middle_counted, middle_room, front_none, front_one}
 use Rattle.forest.proofs.place.Place.write_middle.Goals as goal
 
 -- a start and a middle that it reaches are below 64
-positions_fit : (place : Place) {start middle : ℕ} → Reached place.chart place.at place.d start middle → (start ≤ middle) × (middle ≤ 63)
+positions_fit : (place : Place) {start middle : ℕ} → Reached place.chart.now place.at place.d start middle → (start ≤ middle) × (middle ≤ 63)
 positions_fit place reached = let within = children_inside reached in (within.rises, omega (arith, within.ends, (chart_of place).is_line.short))
 
 pub symbol_ends-ends-requires : goal.symbol_ends-ends-requires
 symbol_ends-ends-requires c = (children_inside c.requires.reached).ends
 
 pub overflow_cast-rows : goal.overflow_cast-rows
-overflow_cast-rows c = omega (arith, c.args.self.now.below, rules_few (chart_of c.args.self.now))
+overflow_cast-rows c = omega (arith, c.args.self.now.below, rules_few c.args.self.now.chart.now.grammar)
 
 pub overflow_add-rows : goal.overflow_add-rows
 overflow_add-rows c = omega (arith, c.args.self.now.inside, right_long c.args.self.now)

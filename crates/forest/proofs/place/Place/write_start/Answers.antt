@@ -42,4 +42,4 @@ returns c =
     let place = c.args.self.now in
     let e = begun c.into_iter-middle-iterator.ensures.into_iter_gives c.members_of-middle-items.ensures in
     let all : c.loop-middle.yielded ≡ member_list c.prefix_ends.result = taken_all _ _ _ c.loop-middle.invariant.all c.in-None.ensures.steps.0 ∙ ap member_list e in
-    rw (← (ap (flat_map (middle_rows place.chart place.rule place.d c.args.start)) all ∙ start_rows_are place c.args.start _ c.prefix_ends.ensures)) c.loop-middle.invariant.front
+    rw (← (ap (flat_map (middle_rows place.chart.now place.rule place.d c.args.start)) all ∙ start_rows_are place c.args.start _ c.prefix_ends.ensures)) c.loop-middle.invariant.front
