@@ -1,13 +1,12 @@
 -- All that is looked at before the filling is right exactly where the question's first checks pass.
 use Rattle.std.proofs.Common.{Err, Ok, Result}
-use Rattle.refusals.specs.Check.{nothing_wrong}
 use Rattle.refusals.specs.declared.Refusal.{Refusal}
 use Prim.Native.Nat.{ℕ, ◌≤◌}
 use mathlib.Core.Path.{◌≡◌, refl, sym, ◌∙◌}
 use mathlib.Core.List.{List}
 use lib.ListN.{length}
 use borrow.Author.Tests.{le-ltb}
-use Rattle.refusals.specs.Check.{Check}
+use Rattle.refusals.specs.Check.{Check, nothing_wrong}
 use Rattle.refusals.specs.Order.{early}
 use Rattle.derivation.specs.Grammar.{Grammar}
 use Rattle.checks.specs.Line.{line_check}

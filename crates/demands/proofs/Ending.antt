@@ -1,6 +1,5 @@
 -- How a question ends: turned down before the filling, turned down after it, or with an answer.
 use Rattle.std.proofs.Common.{Err, Ok}
-use Rattle.refusals.specs.Check.{nothing_wrong}
 use Prim.Native.Nat.{ℕ}
 use mathlib.Core.Path.{◌≡◌, refl, sym, ap, ◌∙◌}
 use mathlib.Core.Logic.{inl, inr}
@@ -12,7 +11,7 @@ use lib.Dec.{ltb}
 use borrow.Author.Tests.{ltb-true}
 use Rattle.refusals.specs.declared.Refusal.{Refusal}
 use Rattle.refusals.specs.declared.Row.{Row}
-use Rattle.refusals.specs.Check.{Check}
+use Rattle.refusals.specs.Check.{Check, nothing_wrong}
 use Rattle.refusals.specs.Order.{and_then}
 use Rattle.checks.specs.Question.{refuse_if}
 use Rattle.refusals.specs.Row.{row_of}

@@ -1,6 +1,5 @@
 -- Every question has a result that its own outcome allows.
 use Rattle.std.proofs.Common.{Err, Ok}
-use Rattle.refusals.specs.Check.{nothing_wrong}
 use Prim.Native.Nat.{ℕ, ◌+◌, ◌*◌, ◌≤◌, ◌<◌}
 use mathlib.Core.Path.{◌≡◌, refl}
 use mathlib.Core.Bool.{cond}
@@ -11,7 +10,7 @@ use lib.ListN.{length, get_or, drop}
 use borrow.Author.Tests.{lt-ltb, le-ltb}
 use Rattle.refusals.specs.declared.Refusal.{Refusal}
 use Rattle.refusals.specs.declared.Refusal.TheVariants.{MarksTooSmall, ForestTooSmall, TreeOfNoFact, TreeTooSmall}
-use Rattle.refusals.specs.Check.{Check}
+use Rattle.refusals.specs.Check.{Check, nothing_wrong}
 use Rattle.refusals.specs.Row.{row_of}
 use Rattle.refusals.specs.Told.{answered, refused}
 use Rattle.positions.specs.Count.{count_below}

@@ -1,6 +1,5 @@
 -- A question is turned down exactly as the document's table says.
 use Rattle.std.proofs.Common.{Err, Ok, Result}
-use Rattle.refusals.specs.Check.{nothing_wrong}
 use Prim.Native.Nat.{ℕ, ◌≤◌, ◌<◌}
 use mathlib.Core.Path.{◌≡◌, refl}
 use mathlib.Core.Logic.{inl, inr}
@@ -12,7 +11,7 @@ use lib.ListN.{length}
 use Rattle.refusals.specs.declared.Refusal.{Refusal}
 use Rattle.refusals.specs.declared.Refusal.TheVariants.{ChartTooSmall, DepthsTooSmall}
 use Rattle.refusals.specs.declared.Row.{Row}
-use Rattle.refusals.specs.Check.{Check}
+use Rattle.refusals.specs.Check.{Check, nothing_wrong}
 use Rattle.refusals.specs.Row.{row_of}
 use Rattle.refusals.specs.Order.{early}
 use Rattle.refusals.specs.Told.{Told, refused, check_told}

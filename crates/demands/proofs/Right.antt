@@ -1,6 +1,5 @@
 -- What a question's first checks find, in the words of the document's table.
 use Rattle.std.proofs.Common.{Err, Ok}
-use Rattle.refusals.specs.Check.{nothing_wrong}
 use Prim.Native.Nat.{ℕ, ◌≤◌, ◌<◌}
 use mathlib.Core.Path.{◌≡◌, refl, ap, ◌∙◌}
 use mathlib.Core.List.{List}
@@ -12,7 +11,7 @@ use lib.Dec.{ltb}
 use borrow.Author.Tests.{lt-ltb, le-ltb, le-leb, lt-leb}
 use Rattle.refusals.specs.declared.Refusal.{Refusal}
 use Rattle.refusals.specs.declared.Refusal.TheVariants.{CategoryOutside, StartOutside, EndOutside}
-use Rattle.refusals.specs.Check.{Check}
+use Rattle.refusals.specs.Check.{Check, nothing_wrong}
 use Rattle.refusals.specs.Row.{row_of}
 use Rattle.checks.specs.declared.Asked.{Asked}
 use Rattle.checks.specs.declared.Asked.TheVariants.{Nothing, Start, Span}

@@ -1,6 +1,5 @@
 -- An accepted grammar: the question is answered, or turned down after the filling, and the work memory is filled.
 use Rattle.std.proofs.Common.{Err, Ok}
-use Rattle.refusals.specs.Check.{nothing_wrong}
 use Prim.Native.Nat.{ℕ, ◌+◌, ◌*◌, ◌≤◌, ◌<◌}
 use mathlib.Core.Path.{◌≡◌, refl, sym, ap, ◌∙◌}
 use mathlib.Core.Bool.{Bool, true, false, true≢false, cond}
@@ -9,7 +8,7 @@ use native.Mathlib.Omega.{arith}
 use lib.ListN.{length, get_or, length-map}
 use borrow.Author.Tests.{le-ltb}
 use Rattle.refusals.specs.declared.Refusal.TheVariants.{TreeOfNoFact}
-use Rattle.refusals.specs.Check.{Check}
+use Rattle.refusals.specs.Check.{Check, nothing_wrong}
 use Rattle.refusals.specs.Row.{row_of}
 use Rattle.refusals.specs.Order.{early}
 use Rattle.refusals.specs.Told.{Told, answered, refused}

@@ -1,6 +1,5 @@
 -- The test of an example, computed: what is told, the work memory, and what is written, against the definitions.
 use Rattle.std.proofs.Common.{Err, Ok, Result}
-use Rattle.refusals.specs.Check.{nothing_wrong}
 use Prim.Native.Nat.{ℕ, zero, suc, ◌+◌, ◌*◌, ◌^◌}
 use mathlib.Core.Bool.{Bool, true, false, ◌&&◌, cond}
 use mathlib.Core.List.{List, [], ◌∷◌, map, flatten}

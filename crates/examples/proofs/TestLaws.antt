@@ -1,6 +1,5 @@
 -- What a test that passes tells.
 use Rattle.std.proofs.Common.{Err, Ok}
-use Rattle.refusals.specs.Check.{nothing_wrong}
 use Prim.Native.Nat.{ℕ, zero, suc, ◌<◌}
 use mathlib.Core.Path.{◌≡◌, refl, ap, ap₂}
 use mathlib.Core.Bool.{Bool, true, false≢true}
@@ -9,7 +8,7 @@ use mathlib.Core.List.{List, [], ◌∷◌}
 use native.Mathlib.Nat.{eq-or-lt_of_le, le_of_suc-le-suc, not-suc-le-zero}
 use lib.Dec.{eqb}
 use borrow.Author.Tests.{eqb-true}
-use Rattle.refusals.specs.Check.{Check}
+use Rattle.refusals.specs.Check.{Check, nothing_wrong}
 use Rattle.refusals.specs.Told.{Told, answered, refused}
 use Rattle.derivation.specs.Node.{NodeValue}
 use Rattle.derivation.specs.Branch.{BranchValue, branch_numbers}

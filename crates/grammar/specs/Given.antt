@@ -1,8 +1,7 @@
 -- A question's grammar: what its reading finds as one check, its counts, and the grammar that it is.
-use Rattle.refusals.specs.Check.{nothing_wrong}
 use Rattle.refusals.specs.declared.Refusal.{Refusal}
 use Rattle.std.specs.Prelude.{ℕ, List, Err, Ok, Result}
-use Rattle.refusals.specs.Check.{Check}
+use Rattle.refusals.specs.Check.{Check, nothing_wrong}
 use Rattle.derivation.specs.Grammar.{Grammar}
 use Rattle.grammar.specs.declared.reading.Sections.{Sections}
 use Rattle.grammar.specs.Reading.{read_of}

@@ -1,6 +1,5 @@
 -- The order in which a question's checks are reported.
 use Rattle.std.specs.Prelude.{Err, Ok}
-use Rattle.refusals.specs.Check.{nothing_wrong}
 use Rattle.refusals.specs.Check.{Check}
 
 -- what one check finds, and where it finds nothing, what the next one does
@@ -8,7 +7,7 @@ abbrev pub and_then : Check → Check → Check
 and_then (Ok u) next = next
 and_then (Err refusal) next = Err refusal
 
--- what each check of a question finds by itself; a question without that check has nothing_wrong
+-- what each check of a question finds by itself; a question without that check has `nothing_wrong` there
 pub record Checks : Type 0 where
   -- 1 to 4 and 14 in reading order, then 5
   pub grammar : Check

@@ -1,5 +1,4 @@
 -- What an answer tells in the document's terms.
-use Rattle.refusals.specs.Check.{nothing_wrong}
 use Rattle.std.specs.Prelude.{ℕ, List, [], Err, Ok}
 use Rattle.refusals.specs.declared.Row.{Row}
 use Rattle.refusals.specs.Check.{Check}

@@ -3,7 +3,7 @@ use Rattle.std.proofs.Common.{◌≡◌, ℕ, ◌<◌, List, sym, ◌∙◌, ap,
 use Rattle.grammar.specs.Value.{standing}
 use Rattle.tree.proofs.DivisionLaws.{serve_row}
 use Rattle.tree.proofs.kept.Kept.may_serve.Goals as goal
-use Rattle.tree.proofs.kept.Kept.may_serve.Goals.{Start, In-Some, In-None}
+use Rattle.tree.proofs.kept.Kept.may_serve.Goals.{In-Some}
 
 -- the rule's first symbol
 first : (c : In-Some) → let s = (standing c.args.rule.bytes.now c.args.rule.at).right in (0 < length s) × (c.in-Some.field-0.now ≡ get_or s 0 0)
