@@ -25,6 +25,9 @@ use Rattle.checks.specs.Memory.{chart_size, depths_size, chart_check, depths_che
 pub chart_small : (categories n : ℕ) → categories ≤ 32 → n ≤ 63 → chart_size categories n ≤ 2048
 chart_small categories n c l = mul-le-mul {n₂ = 32} {m₂ = 64} c (omega arith)
 
+pub depths_small : (categories n : ℕ) → categories ≤ 32 → n ≤ 63 → depths_size categories n ≤ 131072
+depths_small categories n c l = mul-le-mul {n₂ = 2048} {m₂ = 64} (chart_small categories n c l) (omega arith)
+
 -- a lent row is refused where it is shorter than its size, and else passes
 module _ (size lent : ℕ) (refusal : Refusal) where
   pub too_small : lent < size → refuse_if (ltb lent size) refusal ≡ Err refusal

@@ -32,6 +32,14 @@ pub decimal_more : (n : ℕ) → 10 ≤ n → decimal n ≡ decimal (n / 10) ++ 
 unfolding decimal digits
 decimal_more n l = rw (le-ltb n 10 l, digits_enough n (suc (n / 10)) (n / 10) (omega arith) (omega arith))
 
+pub decimal_two : (n : ℕ) → 10 ≤ n → n < 100 → decimal n ≡ digit_code (n / 10) ∷ digit_code (n % 10) ∷ []
+decimal_two n l h = rw (decimal_more n l, decimal_small (n / 10) (omega arith))
+
+pub decimal_three : (n : ℕ) → 100 ≤ n → n < 1000 → decimal n ≡ digit_code (n / 100) ∷ digit_code (n / 10 % 10) ∷ digit_code (n % 10) ∷ []
+decimal_three n l h =
+    let part : n / 10 / 10 ≡ n / 100 = omega arith in
+    rw (decimal_more n (omega arith), decimal_two (n / 10) (omega arith) (omega arith), part)
+
 -- the library writes a number in the same way
 pub decimal_same : (n : ℕ) → n < 2 ^ 64 → fmt.decimal n ≡ decimal n
 decimal_same = decimal_by_steps (λ n (x : List ℕ). x ≡ decimal n) (λ n h. sym (decimal_small n h)) (λ n x h e. ap (λ (x : List ℕ). x ++ (digit_code (n % 10) ∷ [])) e ∙ sym (decimal_more n h))

@@ -24,8 +24,29 @@ impl Page<'_> {
         self.at = end;
     }
 
-    // Prints a number.
+    // Prints a number. One of few digits, as most are, needs no buffer.
     pub fn decimal(&mut self, n: usize)
+        requires { HasRoom self.old (length (decimal n)) }
+        ensures { Printed self.old (decimal n) self.new }
+    {
+        if n < 10 {
+            self.bytes(&[b'0' + n as u8]);
+        } else if n < 100 {
+            self.bytes(&[b'0' + (n / 10) as u8, b'0' + (n % 10) as u8]);
+        } else if n < 1000 {
+            self.bytes(&[
+                b'0' + (n / 100) as u8,
+                b'0' + (n / 10 % 10) as u8,
+                b'0' + (n % 10) as u8,
+            ]);
+        } else {
+            self.long_decimal(n);
+        }
+    }
+
+    // Prints a number by the library; apart, so that the printing of short ones is not weighed down by its buffer.
+    #[inline(never)]
+    fn long_decimal(&mut self, n: usize)
         requires { HasRoom self.old (length (decimal n)) }
         ensures { Printed self.old (decimal n) self.new }
     {

@@ -1,7 +1,7 @@
 // Prints what a job leads to.
 #![tactic(auto)]
 
-ghost use Rattle.std.specs.Prelude.{◌≡◌, [], ◌+◌, ◌≤◌, ◌<◌, length, get_or, ltb, replicate, MatchResult};
+ghost use Rattle.std.specs.Prelude.{◌≡◌, ⊤, true, [], ◌+◌, ◌≤◌, ◌<◌, length, get_or, ltb, replicate, MatchResult};
 ghost use Rattle.tree.specs.Bytes.{wrote};
 ghost use Rattle.report.specs.Printed.{pieces};
 ghost use Rattle.printing.specs.Ended.{Ended};
@@ -14,10 +14,11 @@ pub const PIECE: usize = 475200;
 // Room for a job, and for one byte more, so that a longer one is seen to be.
 pub const JOB: usize = 4097;
 
-// How many pieces were asked for, each of which was written, and whether another follows them, which their number does not say.
+// How many pieces were asked for, whether each of them was written, and whether another follows them, which their number does not say.
 #[derive(Clone, Copy)]
 struct Progress {
     asked: usize,
+    written: bool,
     more: bool,
 }
 
@@ -40,18 +41,22 @@ pub fn room<const N: usize>() -> [u8; N]
 fn print_next(input: &[u8], progress: Progress, out: &mut [u8]) -> Result<Progress, Unwritten>
     requires in_bounds { 475200 ≤ length out.old }
     requires asked_in_bounds { progress.asked < length (pieces input.now) }
+    requires written_value { progress.written ≡ true }
     ensures asked_value { MatchResult result (λ next. next.asked ≡ progress.asked + 1) (λ end. end.number ≡ progress.asked) }
     ensures more_value { let more = ltb (progress.asked + 1) (length (pieces input.now)) in
         MatchResult result (λ next. next.more ≡ more) (λ end. end.more ≡ more) }
+    ensures written_after { MatchResult result (λ next. next.written ≡ true) (λ end. ⊤) }
     ensures out_after { out.new ≡ wrote out.old 0 (get_or (pieces input.now) progress.asked []) }
 {
     let number = progress.asked;
     let Piece { length, more } = write_piece(input, number, out);
-    if !io::write_all(1, &out[..length]) {
+    let written = io::write_all(1, &out[..length]);
+    if !written {
         return Err(Unwritten { number, more });
     }
     Ok(Progress {
         asked: number + 1,
+        written,
         more,
     })
 }
@@ -64,6 +69,7 @@ pub fn print(input: &[u8], out: &mut [u8]) -> Result<usize, Unwritten>
 {
     let mut progress = Progress {
         asked: 0,
+        written: true,
         more: true,
     };
     while progress.more {

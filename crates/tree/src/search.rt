@@ -35,28 +35,30 @@ impl<'a> Search<'a> {
             h: self.kept.depth_at(span) - 1,
         };
         let bytes = self.grammar.view.bytes;
-        'rules: for (number, &at) in self.starts.iter().enumerate() {
-            let rule = RuleAt { bytes, at };
-            if !self.kept.may_serve(rule, span) {
-                continue 'rules;
-            }
-            let symbols = rule.symbols();
-            let sets = below.sets_before(symbols, span.start, span.end);
-            let mut ends = [span.start; 9];
-            let mut m = span.start;
-            for (d, &symbol) in symbols.iter().enumerate() {
-                match below.first_end(symbol as usize, sets[d + 1], m) {
-                    Some(e) => m = e,
-                    None => continue 'rules,
+        'search: {
+            'rules: for (number, &at) in self.starts.iter().enumerate() {
+                let rule = RuleAt { bytes, at };
+                if !self.kept.may_serve(rule, span) {
+                    continue 'rules;
                 }
-                ends[d + 1] = m;
+                let symbols = rule.symbols();
+                let sets = below.sets_before(symbols, span.start, span.end);
+                let mut ends = [span.start; 9];
+                let mut m = span.start;
+                for (d, &symbol) in symbols.iter().enumerate() {
+                    match below.first_end(symbol as usize, sets[d + 1], m) {
+                        Some(e) => m = e,
+                        None => continue 'rules,
+                    }
+                    ends[d + 1] = m;
+                }
+                break 'search Found {
+                    rule: number,
+                    symbols,
+                    ends,
+                };
             }
-            return Found {
-                rule: number,
-                symbols,
-                ends,
-            };
+            unreachable!()
         }
-        unreachable!()
     }
 }

@@ -1,15 +1,22 @@
--- `lines::writing::Page::decimal`: the library's text of a number is its digits.
-use Rattle.std.proofs.Common.{◌≡◌, ◌∙◌}
-use Rattle.lines.specs.Decimal.{decimal}
-use Rattle.lines.proofs.DecimalLaws.{decimal_same}
+-- `lines::writing::Page::decimal`: the bytes are the number's digits.
+use Rattle.std.proofs.Common.{arith}
+use Rattle.lines.proofs.DecimalLaws.{decimal_small, decimal_two, decimal_three}
 use Rattle.lines.proofs.writing.Page.decimal.Goals as goal
 
 pub bytes-requires : goal.bytes-requires
-bytes-requires c =
-    let e : c.as_bytes.result.now ≡ decimal c.args.n = c.as_bytes.ensures.value ∙ c.format.ensures.text ∙ decimal_same c.args.n c.ranges.n.fits in
-    rw e c.requires
+bytes-requires c = rw (decimal_small c.args.n (omega arith)) at c.requires
 
-pub returns : goal.returns
-returns c =
-    let e : c.as_bytes.result.now ≡ decimal c.args.n = c.as_bytes.ensures.value ∙ c.format.ensures.text ∙ decimal_same c.args.n c.ranges.n.fits in
-    rw e at c.bytes.ensures
+pub returns-then-n-lt10 : goal.returns-then-n-lt10
+returns-then-n-lt10 c = rw (decimal_small c.args.n (omega arith)) c.bytes.ensures
+
+pub bytes-requires-then-n-lt100 : goal.bytes-requires-then-n-lt100
+bytes-requires-then-n-lt100 c = rw (decimal_two c.args.n (omega arith) (omega arith)) at c.requires
+
+pub returns-then-n-lt100 : goal.returns-then-n-lt100
+returns-then-n-lt100 c = rw (decimal_two c.args.n (omega arith) (omega arith)) c.bytes-then-n-lt100.ensures
+
+pub bytes-requires-then-n-lt1000 : goal.bytes-requires-then-n-lt1000
+bytes-requires-then-n-lt1000 c = rw (decimal_three c.args.n (omega arith) (omega arith)) at c.requires
+
+pub returns-then-n-lt1000 : goal.returns-then-n-lt1000
+returns-then-n-lt1000 c = rw (decimal_three c.args.n (omega arith) (omega arith)) c.bytes-then-n-lt1000.ensures

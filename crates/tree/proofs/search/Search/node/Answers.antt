@@ -99,9 +99,9 @@ loop-d-preserved c =
     let a = (goal.at.loop-d-preserved c).After-first_end in
     turn_next _ _ c.requires.0.proper _ _ _ _ c.requires.1.end _ _ _ c.loop-d.invariant _ c.loop-d-test.true (exact a) _ (rw c.in-Some.is at (end a)) (few (goal.at.loop-d-preserved c).In-loop-d)
 
-pub returns-in-rules : goal.returns-in-rules
-returns-in-rules c =
-    let k = inside (goal.at.returns-in-rules c).At-rules in
+pub returns : goal.returns
+returns c =
+    let k = inside (goal.at.returns c).At-rules in
     let e = c.symbols-symbols.ensures in
     let p = c.may_serve.ensures.passes c.if-not-may_serve.false in
     let w = turn_whole _ _ c.requires.0.proper _ _ _ _ c.requires.1.end _ _ _ c.loop-d.invariant c.loop-d-test.false (rw e p.1) in
