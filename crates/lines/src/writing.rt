@@ -1,5 +1,5 @@
 // A page, and the printing of a line: a word, numbers with a space before each, and byte 10.
-ghost use Rattle.std.specs.Prelude.{length};
+ghost use Rattle.std.specs.Prelude.{◌≤◌, length};
 ghost use Rattle.lines.specs.Decimal.{decimal};
 ghost use Rattle.lines.specs.inner.Printed.{spaced_numbers, line_with, HasRoom, Printed};
 ghost use Rattle.lines.specs.Lines.{rounds_and_facts};
@@ -24,7 +24,7 @@ impl Page<'_> {
         self.at = end;
     }
 
-    // Prints a number. One of few digits, as most are, needs no buffer.
+    // Prints a number. One of one digit or two, as most are, needs no buffer.
     pub fn decimal(&mut self, n: usize)
         requires { HasRoom self.old (length (decimal n)) }
         ensures { Printed self.old (decimal n) self.new }
@@ -33,25 +33,28 @@ impl Page<'_> {
             self.bytes(&[b'0' + n as u8]);
         } else if n < 100 {
             self.bytes(&[b'0' + (n / 10) as u8, b'0' + (n % 10) as u8]);
-        } else if n < 1000 {
+        } else {
+            self.long_decimal(n);
+        }
+    }
+
+    // Prints a longer number: three digits one by one, more by the library. It stands apart, so that a short number is not weighed down by it.
+    #[inline(never)]
+    fn long_decimal(&mut self, n: usize)
+        requires long { 100 ≤ n }
+        requires room { HasRoom self.old (length (decimal n)) }
+        ensures { Printed self.old (decimal n) self.new }
+    {
+        if n < 1000 {
             self.bytes(&[
                 b'0' + (n / 100) as u8,
                 b'0' + (n / 10 % 10) as u8,
                 b'0' + (n % 10) as u8,
             ]);
         } else {
-            self.long_decimal(n);
+            let mut digits = Buffer::new();
+            self.bytes(digits.format(n).as_bytes());
         }
-    }
-
-    // Prints a number by the library; apart, so that the printing of short ones is not weighed down by its buffer.
-    #[inline(never)]
-    fn long_decimal(&mut self, n: usize)
-        requires { HasRoom self.old (length (decimal n)) }
-        ensures { Printed self.old (decimal n) self.new }
-    {
-        let mut digits = Buffer::new();
-        self.bytes(digits.format(n).as_bytes());
     }
 
     // Prints numbers, with a space before each.

@@ -1,6 +1,6 @@
 -- `lines::writing::Page::decimal`: the bytes are the number's digits.
 use Rattle.std.proofs.Common.{arith}
-use Rattle.lines.proofs.DecimalLaws.{decimal_small, decimal_two, decimal_three}
+use Rattle.lines.proofs.DecimalLaws.{decimal_small, decimal_two}
 use Rattle.lines.proofs.writing.Page.decimal.Goals as goal
 
 pub bytes-requires : goal.bytes-requires
@@ -14,9 +14,3 @@ bytes-requires-then-n-lt100 c = rw (decimal_two c.args.n (omega arith) (omega ar
 
 pub returns-then-n-lt100 : goal.returns-then-n-lt100
 returns-then-n-lt100 c = rw (decimal_two c.args.n (omega arith) (omega arith)) c.bytes-then-n-lt100.ensures
-
-pub bytes-requires-then-n-lt1000 : goal.bytes-requires-then-n-lt1000
-bytes-requires-then-n-lt1000 c = rw (decimal_three c.args.n (omega arith) (omega arith)) at c.requires
-
-pub returns-then-n-lt1000 : goal.returns-then-n-lt1000
-returns-then-n-lt1000 c = rw (decimal_three c.args.n (omega arith) (omega arith)) c.bytes-then-n-lt1000.ensures
