@@ -14,7 +14,8 @@ pub const PIECE: usize = 475200;
 // Room for a job, and for one byte more, so that a longer one is seen to be.
 pub const JOB: usize = 4097;
 
-// How many pieces were asked for, whether each of them was written, and whether another follows them, which their number does not say.
+// How many pieces were asked for, whether each of them was written, which `print_next` asks of what it is handed, and whether another follows them,
+// which their number does not say.
 #[derive(Clone, Copy)]
 struct Progress {
     asked: usize,
